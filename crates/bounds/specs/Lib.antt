@@ -1,0 +1,9 @@
+pub mod Limits
+pub mod Reach
+pub mod Loose
+pub mod Made
+pub mod Faults
+pub mod Rows
+pub mod Meaning
+pub mod Spoiled
+pub mod Laws

@@ -1,0 +1,31 @@
+// The first spoiled item of any source.
+ghost use mathlib.Core.Path.{_≡_};
+ghost use Rattle.bounds.specs.Spoiled.{first-spoiled, readable};
+use crate::fault::Fault;
+use crate::fault::FaultDebug;
+use crate::fault::FaultPartialEq;
+use crate::item::Item;
+use crate::limits::MOST_ITEMS;
+use crate::source::Source;
+
+/// A spoiled item: its place in the list, and what is wrong with it.
+#[derive(Clone, Copy, PartialEq, Eq, Debug)]
+pub struct SpoiledItem {
+    pub place: usize,
+    pub fault: Fault,
+}
+
+/// The first spoiled item among those that can be read.
+pub fn first_spoiled<S: Source>(source: &S) -> Option<SpoiledItem>
+    ensures { λ r. ⌜ r ≡ first-spoiled 0 (readable (meaning (now (source .entry)) .items)) ⌝ }
+{
+    for place in 0..MOST_ITEMS as usize {
+        let Ok(item) = source.item(place) else {
+            return None;
+        };
+        if let Item::Spoiled(fault) = item {
+            return Some(SpoiledItem { place, fault });
+        }
+    }
+    None
+}
