@@ -1,0 +1,9 @@
+pub mod Grid
+pub mod Lines
+pub mod Order
+pub mod Groups
+pub mod Counting
+pub mod Links
+pub mod Filling
+pub mod Refusals
+pub mod Compiled
