@@ -90,6 +90,11 @@ pub when-left : (b : Bool) (P Q : Type 0) → When b P Q → When b P (Unit {0})
 when-left true P Q p = p
 when-left false P Q q = tt
 
+-- what a test says, from its two cases
+pub when-by : (b : Bool) (P Q : Type 0) → (b ≡ true → P) → (b ≡ false → Q) → When b P Q
+when-by true P Q p q = p refl
+when-by false P Q p q = q refl
+
 -- the least of one number more
 pub least-more : (n : ℕ) (v : ℕ → ℤ) (low r : ℤ) → Least n v low → r ≡ minZ (v n) low → Least (n + 1) v r
 least-more n v low r far is = record {

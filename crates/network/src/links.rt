@@ -3,12 +3,13 @@ ghost use mathlib.Core.Path.{_≡_};
 ghost use Prim.Native.Nat.{ℕ, _+_, _-_, _*_, _<_, _≤_};
 ghost use lib.ListN.{length, drop};
 ghost use Rattle.std.specs.Options.{Cases as BySome};
+ghost use Rattle.std.specs.Orderings.{When};
 ghost use Rattle.std.specs.Results.{Cases};
 ghost use Rattle.bounds.specs.Limits.{most-steps};
 ghost use Rattle.network.specs.Counting.{least-count, links-between, links-from, most-count};
 ghost use Rattle.network.specs.Filling.{Grown};
 ghost use Rattle.network.specs.Grid.{Settled, entry-at};
-ghost use Rattle.network.specs.Links.{held, least-link, most-link};
+ghost use Rattle.network.specs.Links.{Dominated, Dominates, LeastKept, MostKept, held, is-leader, least-link, most-link};
 use crate::grid::at;
 use crate::order::LinkOrdered;
 use crate::tables::GroupEntry;
@@ -100,7 +101,7 @@ fn most_link(n: usize, table: &[i32], groups: &[GroupEntry], trigger: usize, tar
     requires target { ⌜ target < n ⌝ }
     requires apart { ⌜ (target ≡ trigger → ⊥) ⌝ }
     requires settled { ⌜ Settled n (entry-at n (now table)) ⌝ }
-    ensures link { λ r. ⌜ BySome r (Unit {0}) (λ x. x ≡ most-link (entry-at n (now (table .entry))) trigger target) ⌝ }
+    ensures link { λ r. ⌜ BySome r (MostKept n (entry-at n (now (table .entry))) (now (groups .entry)) trigger target → ⊥) (λ x. MostKept n (entry-at n (now (table .entry))) (now (groups .entry)) trigger target × (x ≡ most-link (entry-at n (now (table .entry))) trigger target)) ⌝ }
     ensures count { λ r. ⌜ held r ≤ most-count (entry-at n (now (table .entry))) trigger target ⌝ }
 {
     let gap = at(n, table, trigger, target);
@@ -124,7 +125,7 @@ fn least_link(n: usize, table: &[i32], groups: &[GroupEntry], trigger: usize, ta
     requires target { ⌜ target < n ⌝ }
     requires apart { ⌜ (target ≡ trigger → ⊥) ⌝ }
     requires settled { ⌜ Settled n (entry-at n (now table)) ⌝ }
-    ensures link { λ r. ⌜ BySome r (Unit {0}) (λ x. x ≡ least-link (entry-at n (now (table .entry))) trigger target) ⌝ }
+    ensures link { λ r. ⌜ BySome r (LeastKept n (entry-at n (now (table .entry))) (now (groups .entry)) trigger target → ⊥) (λ x. LeastKept n (entry-at n (now (table .entry))) (now (groups .entry)) trigger target × (x ≡ least-link (entry-at n (now (table .entry))) trigger target)) ⌝ }
     ensures count { λ r. ⌜ held r ≤ least-count (entry-at n (now (table .entry))) trigger target ⌝ }
 {
     let gap = at(n, table, target, trigger);
@@ -144,8 +145,10 @@ fn dominated(n: usize, table: &[i32], groups: &[GroupEntry], a: usize, c: usize)
     requires small { ⌜ n ≤ most-steps ⌝ }
     requires room { ⌜ n * n ≤ length (now table) ⌝ }
     requires entries { ⌜ n ≤ length (now groups) ⌝ }
-    requires inside { ⌜ (a < n) × (c < n) ⌝ }
+    requires from { ⌜ a < n ⌝ }
+    requires to { ⌜ c < n ⌝ }
     requires settled { ⌜ Settled n (entry-at n (now table)) ⌝ }
+    ensures { λ r. ⌜ When r (Dominated n (entry-at n (now (table .entry))) (now (groups .entry)) a c) (Dominated n (entry-at n (now (table .entry))) (now (groups .entry)) a c → ⊥) ⌝ }
 {
     for b in 0..n {
         if b != a && b != c && leads(groups, b) && dominates(n, table, a, b, c) {
@@ -155,23 +158,29 @@ fn dominated(n: usize, table: &[i32], groups: &[GroupEntry], a: usize, c: usize)
     false
 }
 
-// Whether the gap from a to c is the sum of the gaps through b, of which the one on the link's far side has the link's sign.
+// Whether the gap from a to c is the sum of the gaps through b, and b lies on the side that the kind of the link asks for.
 fn dominates(n: usize, table: &[i32], a: usize, b: usize, c: usize) -> bool
     requires small { ⌜ n ≤ most-steps ⌝ }
     requires room { ⌜ n * n ≤ length (now table) ⌝ }
-    requires inside { ⌜ (a < n) × (b < n) × (c < n) ⌝ }
+    requires from { ⌜ a < n ⌝ }
+    requires via { ⌜ b < n ⌝ }
+    requires to { ⌜ c < n ⌝ }
     requires settled { ⌜ Settled n (entry-at n (now table)) ⌝ }
+    ensures { λ r. ⌜ When r (Dominates (entry-at n (now (table .entry))) a b c) (Dominates (entry-at n (now (table .entry))) a b c → ⊥) ⌝ }
 {
     let whole = at(n, table, a, c);
     let first = at(n, table, a, b);
     let second = at(n, table, b, c);
-    let beside = if whole >= 0 { second >= 0 } else { first < 0 };
-    beside && first + second == whole
+    if first + second != whole {
+        return false;
+    }
+    if whole >= 0 { second >= 0 } else { first < 0 }
 }
 
 // Whether a step leads its group.
 fn leads(groups: &[GroupEntry], step: usize) -> bool
     requires { ⌜ step < length (now groups) ⌝ }
+    ensures { λ r. ⌜ r ≡ is-leader (now (groups .entry)) step ⌝ }
 {
     groups[step].leader as usize == step
 }
