@@ -25,8 +25,8 @@ row-below n row =
     let upper = end-given (row .upper) in
     cond-both (ltb (row .from) n && ltb (row .to) n) _ _ (Below n)
     (λ e. let steps = and-parts (ltb (row .from) n) (ltb (row .to) n) e in
-        let below : (row .from < n) × (row .to < n) = (ltb-true (row .from) n (steps .0), ltb-true (row .to) n (steps .1)) in
-        cond-both (tidy (row .lower) && tidy (row .upper)) _ _ Made
-        (λ _. where-true-both (has-end lower upper) _ _ Made (λ p. where-true-both (ends-in-reach lower upper) _ _ Made (λ q. below) tt) tt)
-        (λ _. tt))
+    let below : (row .from < n) × (row .to < n) = (ltb-true (row .from) n (steps .0), ltb-true (row .to) n (steps .1)) in
+    cond-both (tidy (row .lower) && tidy (row .upper)) _ _ Made
+    (λ _. where-true-both (has-end lower upper) _ _ Made (λ p. where-true-both (ends-in-reach lower upper) _ _ Made (λ q. below) tt) tt)
+    (λ _. tt))
     (λ _. tt)

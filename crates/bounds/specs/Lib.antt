@@ -7,3 +7,4 @@ pub mod Rows
 pub mod Meaning
 pub mod Spoiled
 pub mod Laws
+pub mod Told

@@ -33,10 +33,12 @@ impl Item {
 pub struct NoSuchPlace;
 
 impl NoSuchPlace {
+    const NUMBER: u8 = 6;
+
     /// The number of the refusal.
     pub fn number(&self) -> u8
         ensures { λ r. ⌜ r ≡ no-such-place ⌝ }
     {
-        6
+        Self::NUMBER
     }
 }

@@ -14,5 +14,6 @@ pub use item::NoSuchPlace;
 pub use row::LooseEnd;
 pub use row::Row;
 pub use scan::SpoiledItem;
+pub use scan::beyond_limits;
 pub use scan::first_spoiled;
 pub use source::Source;

@@ -1,11 +1,13 @@
-// The first spoiled item of any source.
+// What is asked of any source before it is read as a whole.
 ghost use mathlib.Core.Path.{_≡_};
 ghost use Rattle.bounds.specs.Spoiled.{first-spoiled, readable};
+ghost use Rattle.bounds.specs.Told.{beyond-limits};
 use crate::fault::Fault;
 use crate::fault::FaultDebug;
 use crate::fault::FaultPartialEq;
 use crate::item::Item;
 use crate::limits::MOST_ITEMS;
+use crate::limits::MOST_STEPS;
 use crate::source::Source;
 
 /// A spoiled item: its place in the list, and what is wrong with it.
@@ -13,6 +15,14 @@ use crate::source::Source;
 pub struct SpoiledItem {
     pub place: usize,
     pub fault: Fault,
+}
+
+/// Whether a source has no step, or more steps or items than are compiled.
+pub fn beyond_limits<S: Source>(source: &S) -> bool
+    ensures { λ r. ⌜ r ≡ beyond-limits (meaning (now (source .entry))) ⌝ }
+{
+    let steps = source.steps();
+    steps == 0 || steps > MOST_STEPS || source.count() > MOST_ITEMS
 }
 
 /// The first spoiled item among those that can be read.

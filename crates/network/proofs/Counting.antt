@@ -19,8 +19,9 @@ sum-more f k = ap (sum-below f) (add-one k)
 pub sum-front : (f : ℕ → ℕ) (k n : ℕ) → k ≤ n → sum-below f k ≤ sum-below f n
 sum-front f k zero l = let z : k ≡ 0 = omega arith in omega (arith, ap (sum-below f) z)
 sum-front f k (suc n) l = elim (cases-lt n k) [
-    inl h ↦ (let z : k ≡ suc n = omega arith in omega (arith, ap (sum-below f) z))
-  | inr h ↦ omega (arith, sum-front f k n h) ]
+  | inl h ↦ (let z : k ≡ suc n = omega arith in omega (arith, ap (sum-below f) z))
+  | inr h ↦ omega (arith, sum-front f k n h)
+]
 
 sum-same : (f g : ℕ → ℕ) (n : ℕ) → ((k : ℕ) → k < n → f k ≡ g k) → sum-below f n ≡ sum-below g n
 sum-same f g zero h = refl
@@ -45,8 +46,9 @@ sum-swap h (suc n) m = ap (λ x. x + sum-below (h n) m) (sum-swap h n m) ∙ sym
 
 eqb-swap : (a b : ℕ) → eqb a b ≡ eqb b a
 eqb-swap a b = elim (cases-eq a b) [
-    inl h ↦ eq-eqb a b h ∙ sym (eq-eqb b a (sym h))
-  | inr h ↦ ne-eqb a b h ∙ sym (ne-eqb b a (λ e. h (sym e))) ]
+  | inl h ↦ eq-eqb a b h ∙ sym (eq-eqb b a (sym h))
+  | inr h ↦ ne-eqb a b h ∙ sym (ne-eqb b a (λ e. h (sym e)))
+]
 
 -- one for each step but p
 abbrev others : ℕ → ℕ → ℕ
@@ -59,8 +61,9 @@ others-before p (suc n) l = omega (arith, others-before p n (omega arith), cond-
 others-all : (p n : ℕ) → p < n → sum-below (others p) n + 1 ≡ n
 others-all p zero l = absurd (omega arith)
 others-all p (suc n) l = elim (cases-eq p n) [
-    inl h ↦ omega (arith, others-before p n (omega arith), cond-true {A = ℕ} (eqb p n) 0 1 (eq-eqb p n h))
-  | inr h ↦ omega (arith, others-all p n (omega arith), cond-false {A = ℕ} (eqb p n) 0 1 (ne-eqb p n h)) ]
+  | inl h ↦ omega (arith, others-before p n (omega arith), cond-true {A = ℕ} (eqb p n) 0 1 (eq-eqb p n h))
+  | inr h ↦ omega (arith, others-all p n (omega arith), cond-false {A = ℕ} (eqb p n) 0 1 (ne-eqb p n h))
+]
 
 module _ (d : ℕ → ℕ → ℤ) where
   -- the pair p, q gives its link as a most link from p, or as a least link from q
@@ -80,11 +83,11 @@ module _ (d : ℕ → ℕ → ℤ) where
   unfolding backward
   links-all n =
       let all : sum-below (λ p. sum-below (others p) n) n ≡ n * (n - 1) =
-          sum-same (λ p. sum-below (others p) n) (λ _. n - 1) n (λ p h. omega (arith, others-all p n h)) ∙ sum-constant (n - 1) n in
+      sum-same (λ p. sum-below (others p) n) (λ _. n - 1) n (λ p h. omega (arith, others-all p n h)) ∙ sum-constant (n - 1) n in
       sum-same (links-from n d) (λ p. sum-below (most-count d p) n + sum-below (least-count d p) n) n (λ p _. sum-plus (most-count d p) (least-count d p) n)
       ∙ sum-plus (λ p. sum-below (most-count d p) n) (λ p. sum-below (least-count d p) n) n
       ∙ ap (λ x. sum-below (λ p. sum-below (most-count d p) n) n + x) (sum-swap (least-count d) n n)
       ∙ sym (sum-plus (λ p. sum-below (most-count d p) n) (λ p. sum-below (backward p) n) n)
       ∙ sum-same (λ p. sum-below (most-count d p) n + sum-below (backward p) n) (λ p. sum-below (others p) n) n
-          (λ p _. sym (sum-plus (most-count d p) (backward p) n) ∙ sum-same (λ q. most-count d p q + backward p q) (others p) n (λ q _. one-each p q))
+      (λ p _. sym (sum-plus (most-count d p) (backward p) n) ∙ sum-same (λ q. most-count d p q + backward p q) (others p) n (λ q _. one-each p q))
       ∙ all

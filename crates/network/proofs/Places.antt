@@ -17,8 +17,10 @@ place-in n i j xs p q room = omega (arith, mul-add-lt i n j n p q)
 
 place-apart : (n i j a b : ℕ) → j < n → b < n → ((a ≡ i) × (b ≡ j) → ⊥) → (a * n + b) ≢ (i * n + j)
 place-apart n i j a b q s ne e =
-    ne (sym (div-mul-add a n b s) ∙ ap (λ x. x / n) e ∙ div-mul-add i n j q,
-        sym (mod-mul-add a n b s) ∙ ap (λ x. x % n) e ∙ mod-mul-add i n j q)
+    ne (
+      sym (div-mul-add a n b s) ∙ ap (λ x. x / n) e ∙ div-mul-add i n j q,
+      sym (mod-mul-add a n b s) ∙ ap (λ x. x % n) e ∙ mod-mul-add i n j q,
+    )
 
 pub entry-set-same : (n i j : ℕ) (xs : List ℤ) (v : ℤ) → i < n → j < n → n * n ≤ length xs → entry-at n (set xs (i * n + j) v) i j ≡ v
 unfolding entry-at
@@ -34,8 +36,9 @@ behind-set n i j xs v p q = drop-set-lt (n * n) xs (i * n + j) v (mul-add-lt i n
 pub lowered-set : (n i j : ℕ) (xs : List ℤ) (v m : ℤ) → i < n → j < n → n * n ≤ length xs → m ≡ minZ (entry-at n xs i j) v
     → Lowered n (entry-at n xs) (entry-at n (set xs (i * n + j) m)) i j v
 lowered-set n i j xs v m p q room is = record {
-    here = entry-set-same n i j xs m p q room ∙ is;
-    rest = λ a b r s ne. entry-set-other n i j a b xs m q s ne }
+  here = entry-set-same n i j xs m p q room ∙ is;
+  rest = λ a b r s ne. entry-set-other n i j a b xs m q s ne;
+}
 
 -- one entry more of a list that is filled from the front
 pub filled-more : {X : Type 0} (k : ℕ) (v : X) (xs : List X) → k < length xs → set (replicate k v ++ drop k xs) k v ≡ replicate (k + 1) v ++ drop (k + 1) xs

@@ -27,8 +27,9 @@ Begun n xs p = (q : ℕ) → q < p → getD xs q (pos 0) ≡ unbounded (q / n) (
 
 pub begun-more : (n : ℕ) (xs : List ℤ) (p : ℕ) (v : ℤ) → p < length xs → v ≡ unbounded (p / n) (p % n) → Begun n xs p → Begun n (set xs p v) (p + 1)
 begun-more n xs p v p-in is begun q l = elim (cases-eq q p) [
-    inl h ↦ rw h (getD-set-same xs p v (pos 0) p-in ∙ is)
-  | inr h ↦ getD-set-other xs p q v (pos 0) h ∙ begun q (omega arith) ]
+  | inl h ↦ rw h (getD-set-same xs p v (pos 0) p-in ∙ is)
+  | inr h ↦ getD-set-other xs p q v (pos 0) h ∙ begun q (omega arith)
+]
 
 module _ (n : ℕ) (xs : List ℤ) (begun : Begun n xs (n * n)) where
   entry-unbounded : (i j : ℕ) → i < n → j < n → entry-at n xs i j ≡ unbounded i j
@@ -37,6 +38,7 @@ module _ (n : ℕ) (xs : List ℤ) (begun : Begun n xs (n * n)) where
 
   pub begun-rough : Rough n (entry-at n xs)
   begun-rough = record {
-      low = λ i j p q. elim (unbounded-cases i j) [ inl h ↦ omega (arith, ints, entry-unbounded i j p q, h) | inr h ↦ omega (arith, ints, entry-unbounded i j p q, h) ];
-      high = λ i j p q. elim (unbounded-cases i j) [ inl h ↦ omega (arith, ints, entry-unbounded i j p q, h) | inr h ↦ omega (arith, ints, entry-unbounded i j p q, h) ];
-      diagonal = λ i p. omega (arith, ints, entry-unbounded i i p p, unbounded-same i) }
+    low = λ i j p q. elim (unbounded-cases i j) [ inl h ↦ omega (arith, ints, entry-unbounded i j p q, h) | inr h ↦ omega (arith, ints, entry-unbounded i j p q, h) ];
+    high = λ i j p q. elim (unbounded-cases i j) [ inl h ↦ omega (arith, ints, entry-unbounded i j p q, h) | inr h ↦ omega (arith, ints, entry-unbounded i j p q, h) ];
+    diagonal = λ i p. omega (arith, ints, entry-unbounded i i p p, unbounded-same i);
+  }

@@ -17,7 +17,8 @@ use Rattle.network.specs.declared.refusal.Refusal.the-variants.{NoTimetable}
 use Rattle.network.specs.declared.tables.GroupEntry.{GroupEntry}
 use Rattle.network.specs.declared.tables.Link.{Link}
 use Rattle.network.specs.Grid.{zeroed}
-use Rattle.network.specs.Refusals.{Told, told}
+use Rattle.bounds.specs.Told.{Told}
+use Rattle.network.specs.Refusals.{told}
 
 -- an early refusal is the one given; without one there are two numbers within their bounds, or there is no timetable
 abbrev pub Answered : ℕ → Option Told → Result Compiled Refusal → Type 0

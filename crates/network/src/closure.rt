@@ -38,9 +38,7 @@ fn relax(n: usize, table: &mut [i32], k: usize) -> bool
     requires room { ⌜ n * n ≤ length (now table) ⌝ }
     requires via { ⌜ k < n ⌝ }
     requires rough { ⌜ Rough n (entry-at n (now table)) ⌝ }
-    ensures relaxed {
-        λ r. ⌜ When r (Rough n (entry-at n (now (table .exit))) × Relaxed n (entry-at n (now (table .entry))) (entry-at n (now (table .exit))) k × (entry-at n (now (table .entry)) k k ≡ pos 0)) (Refuted n (entry-at n (now (table .entry)))) ⌝
-    }
+    ensures relaxed { λ r. ⌜ When r (Rough n (entry-at n (now (table .exit))) × Relaxed n (entry-at n (now (table .entry))) (entry-at n (now (table .exit))) k × (entry-at n (now (table .entry)) k k ≡ pos 0)) (Refuted n (entry-at n (now (table .entry)))) ⌝ }
     ensures behind { λ _. ⌜ drop (n * n) (now (table .exit)) ≡ drop (n * n) (now (table .entry)) ⌝ }
 {
     let via = row(n, table, k);

@@ -14,9 +14,8 @@ use crate::start::gather;
 use crate::tables::GroupEntry;
 use crate::tables::Link;
 use bounds::Source;
+use bounds::beyond_limits;
 use bounds::first_spoiled;
-use bounds::limits::MOST_ITEMS;
-use bounds::limits::MOST_STEPS;
 
 /// How much of the tables a compilation has used.
 #[derive(Clone, Copy, PartialEq, Eq, Debug)]
@@ -40,11 +39,10 @@ pub fn compile<S: Source>(
     ensures groups { λ r. ⌜ GroupsAfter (meaning (now (source .entry)) .steps) r (now (groups .entry)) (now (groups .exit)) ⌝ }
     ensures links { λ r. ⌜ LinksAfter r (now (links .entry)) (now (links .exit)) ⌝ }
 {
-    let steps = source.steps();
-    if steps == 0 || steps > MOST_STEPS || source.count() > MOST_ITEMS {
+    if beyond_limits(source) {
         return Err(Refusal::Limits);
     }
-    let n = steps as usize;
+    let n = source.steps() as usize;
     if distances.len() < n * n || groups.len() < n || links.len() < n * (n - 1) {
         return Err(Refusal::Tables);
     }

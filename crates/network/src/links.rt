@@ -19,7 +19,12 @@ use queue::Full;
 use queue::Queue;
 
 /// Writes the kept links in order to the front of `links`, and answers how many there are.
-pub(crate) fn find_links(n: usize, table: &[i32], groups: &[GroupEntry], links: &mut [Link]) -> Result<usize, Full>
+pub(crate) fn find_links(
+    n: usize,
+    table: &[i32],
+    groups: &[GroupEntry],
+    links: &mut [Link],
+) -> Result<usize, Full>
     requires small { ⌜ n ≤ most-steps ⌝ }
     requires room { ⌜ n * n ≤ length (now table) ⌝ }
     requires entries { ⌜ n ≤ length (now groups) ⌝ }
@@ -38,7 +43,13 @@ pub(crate) fn find_links(n: usize, table: &[i32], groups: &[GroupEntry], links: 
 }
 
 // Pushes the kept links of one trigger.
-fn push_from(n: usize, table: &[i32], groups: &[GroupEntry], trigger: usize, queue: &mut Queue<'_, Link>) -> Result<(), Full>
+fn push_from(
+    n: usize,
+    table: &[i32],
+    groups: &[GroupEntry],
+    trigger: usize,
+    queue: &mut Queue<'_, Link>,
+) -> Result<(), Full>
     requires small { ⌜ n ≤ most-steps ⌝ }
     requires room { ⌜ n * n ≤ length (now table) ⌝ }
     requires entries { ⌜ n ≤ length (now groups) ⌝ }
@@ -93,7 +104,13 @@ fn push_kept(link: Option<Link>, queue: &mut Queue<'_, Link>) -> Result<(), Full
 }
 
 // The most link from one leader to another, if it is kept.
-fn most_link(n: usize, table: &[i32], groups: &[GroupEntry], trigger: usize, target: usize) -> Option<Link>
+fn most_link(
+    n: usize,
+    table: &[i32],
+    groups: &[GroupEntry],
+    trigger: usize,
+    target: usize,
+) -> Option<Link>
     requires small { ⌜ n ≤ most-steps ⌝ }
     requires room { ⌜ n * n ≤ length (now table) ⌝ }
     requires entries { ⌜ n ≤ length (now groups) ⌝ }
@@ -117,7 +134,13 @@ fn most_link(n: usize, table: &[i32], groups: &[GroupEntry], trigger: usize, tar
 }
 
 // The least link from one leader to another, if it is kept.
-fn least_link(n: usize, table: &[i32], groups: &[GroupEntry], trigger: usize, target: usize) -> Option<Link>
+fn least_link(
+    n: usize,
+    table: &[i32],
+    groups: &[GroupEntry],
+    trigger: usize,
+    target: usize,
+) -> Option<Link>
     requires small { ⌜ n ≤ most-steps ⌝ }
     requires room { ⌜ n * n ≤ length (now table) ⌝ }
     requires entries { ⌜ n ≤ length (now groups) ⌝ }

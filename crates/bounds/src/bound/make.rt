@@ -1,7 +1,7 @@
 // How a bound is made from loose values, and what it says.
 ghost use mathlib.Core.Path.{_≡_};
 ghost use Rattle.bounds.specs.Made.{made-bound};
-ghost use Rattle.bounds.specs.Reach.{end-in-reach, ends-in-reach};
+ghost use Rattle.bounds.specs.Reach.{end-in-reach, ends-in-reach, has-end};
 use super::Bound;
 use crate::fault::Fault;
 use crate::limits::HORIZON;
@@ -17,7 +17,7 @@ impl Bound {
         }
         let lower = row.lower.end();
         let upper = row.upper.end();
-        if lower.is_none() && upper.is_none() {
+        if !has_end(lower, upper) {
             return Err(Fault::NoEnd);
         }
         if !in_reach(lower, upper) {
@@ -58,6 +58,13 @@ impl Bound {
     {
         self.upper
     }
+}
+
+// Whether an end is present.
+fn has_end(lower: Option<i32>, upper: Option<i32>) -> bool
+    ensures { λ r. ⌜ r ≡ has-end lower upper ⌝ }
+{
+    lower.is_some() || upper.is_some()
 }
 
 // Whether each end that is present is in reach.

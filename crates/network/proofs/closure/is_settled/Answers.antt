@@ -10,6 +10,7 @@ loop-i-again c = below-more _ _ (c .loop-i .inv) (possible-same _ _ _ _ (c .loop
 
 pub returns : need.returns
 returns c = record {
-    low = λ i j p q. (let l : i < c .loop-i .i = omega arith in c .loop-i .inv i l .low j q);
-    high = c .pre .rough .high;
-    diagonal = λ i p. (let l : i < c .loop-i .i = omega arith in omega (arith, ints, c .loop-i .inv i l .diagonal, c .pre .rough .diagonal i p)) }
+  low = λ i j p q. (let l : i < c .loop-i .i = omega arith in c .loop-i .inv i l .low j q);
+  high = c .pre .rough .high;
+  diagonal = λ i p. (let l : i < c .loop-i .i = omega arith in omega (arith, ints, c .loop-i .inv i l .diagonal, c .pre .rough .diagonal i p));
+}

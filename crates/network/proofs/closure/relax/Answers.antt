@@ -19,6 +19,7 @@ loop-i-again c =
     let low : negℤ (pos horizon) ≤ℤ t = omega (arith, ints, c .if-through .left) in
     let is : t ≡ entry-at n (c .loop-i .table) (c .loop-i .i) (c .args .k) = omega (arith, ints, c .at-through .ensures) in
     let near : Near n (number-at (c .row-via .result)) =
-        near-line n (number-at (c .row-via .result)) (entry-at n (c .args .table .now) (c .args .k)) (c .args .k) line (λ b q. c .pre .rough .high _ b (c .pre .via) q) (c .if-not-is-possible .ensures tt) in
-    (stage-more _ _ _ _ _ t _ (c .pre .via) (c .loop-i-test .taken) (c .loop-i .inv .0) low near is line _ (c .relax-row .ensures .lowered),
-     c .relax-row .ensures .behind ∙ c .loop-i .inv .1)
+    near-line n (number-at (c .row-via .result)) (entry-at n (c .args .table .now) (c .args .k)) (c .args .k) line (λ b q. c .pre .rough .high _ b (c .pre .via) q) (c .if-not-is-possible .ensures tt) in (
+      stage-more _ _ _ _ _ t _ (c .pre .via) (c .loop-i-test .taken) (c .loop-i .inv .0) low near is line _ (c .relax-row .ensures .lowered),
+      c .relax-row .ensures .behind ∙ c .loop-i .inv .1,
+    )

@@ -8,5 +8,6 @@ index-table-i c = place-in _ _ _ _ (c .pre .row) (c .pre .column) (c .pre .room)
 
 pub returns : need.returns
 returns c = record {
-    lowered = lowered-set _ _ _ _ _ _ (c .pre .row) (c .pre .column) (c .pre .room) (omega (arith, ints, clamps, c .min .ensures .value, c .at-old .ensures));
-    behind = behind-set _ _ _ _ _ (c .pre .row) (c .pre .column) }
+  lowered = lowered-set _ _ _ _ _ _ (c .pre .row) (c .pre .column) (c .pre .room) (omega (arith, ints, clamps, c .min .ensures .value, c .at-old .ensures));
+  behind = behind-set _ _ _ _ _ (c .pre .row) (c .pre .column);
+}

@@ -15,11 +15,23 @@ push-from-requires c κs =
     let d = entry-at (c .args .n) (c .args .table .now) in
     let f = links-from (c .args .n) d in
     record {
-      small = c .pre .small; room = c .pre .room; entries = c .pre .entries;
+      small = c .pre .small;
+      room = c .pre .room;
+      entries = c .pre .entries;
       inside = c .loop-trigger-test .taken;
-      slots = omega (arith, c .loop-trigger .inv .most, c .loop-trigger .inv .size, c .new-queue .ensures .empty, ap length (c .new-queue .ensures .kept), c .pre .slots,
-          links-all d (c .args .n), sum-more f (c .loop-trigger .trigger), sum-front f (c .loop-trigger .trigger + 1) (c .args .n) (omega arith));
-      settled = c .pre .settled }
+      slots = omega (
+        arith,
+        c .loop-trigger .inv .most,
+        c .loop-trigger .inv .size,
+        c .new-queue .ensures .empty,
+        ap length (c .new-queue .ensures .kept),
+        c .pre .slots,
+        links-all d (c .args .n),
+        sum-more f (c .loop-trigger .trigger),
+        sum-front f (c .loop-trigger .trigger + 1) (c .args .n) (omega arith),
+      );
+      settled = c .pre .settled;
+    }
 
 pub loop-trigger-again : need.loop-trigger-again
 loop-trigger-again c =
@@ -35,10 +47,11 @@ returns c =
     let d = entry-at (c .args .n) (c .args .table .now) in
     let f = links-from (c .args .n) d in
     let behind : drop (c .len .result) (c .loop-trigger .queue .slots .now) ≡ drop (c .len .result) (c .args .links .now) =
-        ap (λ k. drop k (c .loop-trigger .queue .slots .now)) (c .len .ensures)
-        ∙ c .loop-trigger .inv .rest
-        ∙ ap (drop (c .loop-trigger .queue .len)) (c .new-queue .ensures .kept)
-        ∙ ap (λ k. drop k (c .args .links .now)) (sym (c .len .ensures)) in
+    ap (λ k. drop k (c .loop-trigger .queue .slots .now)) (c .len .ensures)
+    ∙ c .loop-trigger .inv .rest
+    ∙ ap (drop (c .loop-trigger .queue .len)) (c .new-queue .ensures .kept)
+    ∙ ap (λ k. drop k (c .args .links .now)) (sym (c .len .ensures)) in
     record {
       count = omega (arith, c .loop-trigger .inv .most, c .new-queue .ensures .empty, c .len .ensures, links-all d (c .args .n), sum-front f (c .loop-trigger .trigger) (c .args .n) (omega arith));
-      behind = search needs }
+      behind = search needs;
+    }

@@ -12,11 +12,15 @@ pub push-between-requires : need.push-between-requires
 push-between-requires c κs =
     let f = links-between (entry-at (c .args .n) (c .args .table .now)) (c .args .trigger) in
     record {
-      small = c .pre .small; room = c .pre .room; entries = c .pre .entries; trigger = c .pre .inside;
+      small = c .pre .small;
+      room = c .pre .room;
+      entries = c .pre .entries;
+      trigger = c .pre .inside;
       target = c .loop-target-test .taken;
       apart = c .if-target-trigger .taken;
       slots = omega (arith, c .loop-target .inv .most, c .loop-target .inv .size, c .pre .slots, sum-more f (c .loop-target .target), sum-front f (c .loop-target .target + 1) (c .args .n) (omega arith));
-      settled = c .pre .settled }
+      settled = c .pre .settled;
+    }
 
 pub loop-target-again : need.loop-target-again
 loop-target-again c =

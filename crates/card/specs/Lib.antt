@@ -1,0 +1,6 @@
+-- The definitions that the contracts of this crate cite.
+pub mod Refusals
+pub mod Layout
+pub mod Opening
+pub mod Laws
+pub mod Meaning

@@ -1,0 +1,3 @@
+// Examples of the crates of this repository at work.
+#[cfg(test)]
+mod cards;
