@@ -5,7 +5,6 @@ use native.Mathlib.Omega.{arith}
 use lib.ListN.{length, drop}
 use Rattle.std.specs.Options.{mapped, valueOr}
 use Rattle.std.proofs.shelf.Tests.{cond-false}
-use Rattle.bounds.specs.Limits.{most-items}
 use Rattle.bounds.specs.Told.{told-spoiled}
 use Rattle.network.specs.Compiled.{leaves-distances}
 use Rattle.network.specs.Refusals.{told, early-refusal}
@@ -19,16 +18,14 @@ use Rattle.network.proofs.compile.compile.Needs.{After-first-spoiled}
 early : (g : given.Over) (c : After-first-spoiled g)
     → early-refusal (g .S·Source .meaning (c .args .source .now)) (length (c .args .distances .now)) (length (c .args .groups .now)) (length (c .args .links .now)) ≡ mapped told-spoiled (c .first-spoiled .result)
 early g c =
-    let m = g .S·Source .meaning (c .args .source .now) in
-    let few : length (m .items) ≤ most-items = omega (arith, c .count .ensures, c .if-count-gt-MOST-ITEMS .left) in
-    early-by-items m (c .steps-steps .result) _ _ _
-    (c .steps-steps .ensures) (c .if-steps-eq0 .left) (c .if-steps-gt-MOST-STEPS .left) few (c .if-distances-n .left) (c .if-groups-n .left) (c .if-links-n .left)
+    early-by-items (g .S·Source .meaning (c .args .source .now)) (c .steps-n .result) _ _ _
+    (sym (c .if-beyond-limits .ensures tt)) (c .steps-n .ensures) (c .if-distances-n .left) (c .if-groups-n .left) (c .if-links-n .left)
     (c .first-spoiled .result) (c .first-spoiled .ensures)
 
 pub returns-in-Some : need.returns-in-Some
 returns-in-Some g c = record {
   answer = sym (ap (λ o. valueOr o (told NoTimetable)) (early g (need.at·returns-in-Some g c .After-first-spoiled) ∙ ap (mapped told-spoiled) (c .in-Some .is)));
-  distances = c .clear .ensures ∙ zeroed-same _ _ _ _ (c .steps-steps .ensures) refl
+  distances = c .clear .ensures ∙ zeroed-same _ _ _ _ (c .steps-n .ensures) refl
       ∙ sym (cond-false (leaves-distances (told-spoiled (c .in-Some .item))) _ _ (spoiled-clears (c .in-Some .item .fault) (c .in-Some .item .place)));
   groups = search needs;
   links = search needs;
@@ -37,15 +34,15 @@ returns-in-Some g c = record {
 pub returns-then-not-close : need.returns-then-not-close
 returns-then-not-close g c = record {
   answer = sym (ap (λ o. valueOr o (told NoTimetable)) (early g (need.at·returns-then-not-close g c .After-first-spoiled) ∙ ap (mapped told-spoiled) (c .in-rest .is)));
-  distances = c .clear-then-not-close .ensures ∙ zeroed-same _ _ _ _ (c .steps-steps .ensures) (c .close .ensures .behind ∙ c .gather .ensures .behind);
+  distances = c .clear-then-not-close .ensures ∙ zeroed-same _ _ _ _ (c .steps-n .ensures) (c .close .ensures .behind ∙ c .gather .ensures .behind);
   groups = search needs;
   links = search needs;
 }
 
 pub returns : need.returns
 returns g c =
-    let n = c .steps-steps .result in
-    let e = c .steps-steps .ensures in
+    let n = c .steps-n .result in
+    let e = c .steps-n .ensures in
     record {
       answer = (
         early g (need.at·returns g c .After-first-spoiled) ∙ ap (mapped told-spoiled) (c .in-rest .is),
