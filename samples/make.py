@@ -171,6 +171,19 @@ WASHER = (
 )
 
 
+# Small jobs, each for one rule.
+SMALL = {
+    "chain": (4, [(0, 1, 10, 20), (1, 2, 30, 40), (2, 3, 10, 20), (0, 3, 60, 70)]),  # eight links
+    "rigid": (3, [(0, 1, 10, 20), (1, 2, 30, 40), (0, 2, 0, 40)]),  # one group and no link
+    "pair": (3, [(0, 1, 5, 10), (1, 2, 0, 0)]),  # a group of two, whose links must not drop each other
+    "unbound": (2, []),  # no bound but the horizon
+    "one_step": (1, []),
+    "self_bound": (2, [(1, 1, 0, 2)]),
+    "refused_self_bound": (2, [(1, 1, 1, 2)]),
+    "refused_one_short": (3, [(0, 1, 10, 20), (1, 2, 30, 40), (0, 2, 0, 39)]),
+}
+
+
 def spoiled(record):
     """A card of three steps whose record at place 1 is spoiled."""
     good = [(0, 1, 10, 20), (1, 2, 1, 2), (1, 2, 0, None)]
@@ -212,6 +225,8 @@ def main():
     save("two_steps", two, text)
     save("washer", card(*WASHER), listing(*WASHER))
     save("full", card(*full_job()), listing(*full_job()))
+    for name, job in SMALL.items():
+        save(name, card(*job), listing(*job))
 
     for name, data in [
         ("refused_empty", b""),

@@ -1,3 +1,5 @@
 // Examples of the crates of this repository at work.
 #[cfg(test)]
 mod cards;
+#[cfg(test)]
+mod compiling;
