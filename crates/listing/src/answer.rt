@@ -11,7 +11,7 @@ use card::reading::CardSource;
 use network::GroupEntry;
 use network::Kind;
 use network::Link;
-use network::compile::compile;
+use network::compile;
 use std::alloc::AllocError;
 use std::alloc::Global;
 

@@ -11,7 +11,7 @@ use Rattle.std.specs.declared.option.Option.{Option}
 use Rattle.std.specs.declared.option.Option.the-variants.{Some, None}
 use Rattle.std.specs.declared.result.Result.{Result}
 use Rattle.std.specs.declared.result.Result.the-variants.{Ok, Err}
-use Rattle.network.specs.declared.compile.Compiled.{Compiled}
+use Rattle.network.specs.declared.compiler.Compiled.{Compiled}
 use Rattle.network.specs.declared.refusal.Refusal.{Refusal}
 use Rattle.network.specs.declared.refusal.Refusal.the-variants.{NoTimetable}
 use Rattle.network.specs.declared.tables.GroupEntry.{GroupEntry}

@@ -1,6 +1,6 @@
 // Compilation of a source of bounds into distances, rigid groups and a pruned table of links.
 mod closure;
-pub mod compile;
+pub mod compiler;
 mod grid;
 mod groups;
 mod links;
@@ -9,7 +9,8 @@ pub mod refusal;
 mod start;
 pub mod tables;
 
-pub use compile::Compiled;
+pub use compiler::Compiled;
+pub use compiler::compile;
 pub use order::LinkOrdered;
 pub use refusal::Refusal;
 pub use tables::GroupEntry;

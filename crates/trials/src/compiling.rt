@@ -5,7 +5,7 @@ use network::GroupEntry;
 use network::Kind;
 use network::Link;
 use network::Refusal;
-use network::compile::compile;
+use network::compile;
 use network::refusal::RefusalDebug;
 use network::refusal::RefusalPartialEq;
 use network::tables::GroupEntryDebug;

@@ -10,9 +10,9 @@ use Rattle.network.specs.Compiled.{leaves-distances}
 use Rattle.network.specs.Refusals.{told, early-refusal}
 use Rattle.network.specs.declared.refusal.Refusal.the-variants.{NoTimetable}
 use Rattle.network.proofs.Compiling.{early-by-items, spoiled-clears, zeroed-same}
-use Rattle.network.proofs.compile.compile.Given as given
-use Rattle.network.proofs.compile.compile.Needs as need
-use Rattle.network.proofs.compile.compile.Needs.{After-first-spoiled}
+use Rattle.network.proofs.compiler.compile.Given as given
+use Rattle.network.proofs.compiler.compile.Needs as need
+use Rattle.network.proofs.compiler.compile.Needs.{After-first-spoiled}
 
 -- past the tests for limits and tables
 early : (g : given.Over) (c : After-first-spoiled g)
