@@ -2,3 +2,5 @@
 pub mod Fields
 pub mod Parts
 pub mod Signs
+pub mod Writes
+pub mod Bytes

@@ -1,14 +1,15 @@
--- Two's complement: its two halves, its range, and that it is the one number in range congruent to the bits.
-use mathlib.Core.Path.{_≡_, sym, ap, subst, _∙_}
+-- Two's complement: its two halves, its range, that it is the one number in range congruent to the bits, and the way back.
+use mathlib.Core.Path.{_≡_, refl, sym, ap, subst, _∙_}
 use mathlib.Core.Logic.{inl, inr}
 use Prim.Native.Nat.{ℕ, suc, _-_, _*_, _%_, _^_, _<_, _≤_}
 use native.Mathlib.Nat.{mod-eq-of-lt}
 use native.Mathlib.Omega.{arith}
 use lib.Dec.{ltb}
 use lib.IntN.{ℤ, pos, negsuc, _-ℤ_}
+use Rattle.std.proofs.shelf.Bits.{mod-below, pow-pos}
 use Rattle.std.proofs.shelf.Signed.{ints}
 use Rattle.std.proofs.shelf.Tests.{cond-true, cond-false, lt-ltb, le-ltb, cases-lt}
-use Rattle.bits.specs.Signed.{signed, InRange, Congruent, StandsFor}
+use Rattle.bits.specs.Signed.{signed, unsigned, InRange, Congruent, StandsFor}
 
 -- the lower half of the values
 pub signed-low : (w x : ℕ) → x * 2 < 2 ^ w → signed w x ≡ pos x
@@ -64,3 +65,23 @@ signed-only w x (negsuc n) r c =
 -- so it is the one number in range that is congruent to the bits
 pub signed-stands : (w x : ℕ) → x < 2 ^ w → StandsFor w x (signed w x)
 signed-stands w x h = record { congruent = signed-congruent w x h; only = signed-only w x }
+
+-- the bits of a number are its remainder
+pub unsigned-congruent : (w : ℕ) (z : ℤ) → Congruent w (unsigned w z) z
+unsigned-congruent w (pos n) = refl
+unsigned-congruent w (negsuc n) = refl
+
+-- the bits of a number are below the power of their width
+pub unsigned-lt : (w : ℕ) (z : ℤ) → unsigned w z < 2 ^ w
+unsigned-lt w (pos n) = mod-below n (2 ^ w) (pow-pos w)
+unsigned-lt w (negsuc n) = omega (arith, pow-pos w)
+
+-- what the bits of a number in range stand for is that number
+pub signed-unsigned : (w : ℕ) (z : ℤ) → InRange w z → signed w (unsigned w z) ≡ z
+signed-unsigned w z r = sym (signed-only w (unsigned w z) z r (unsigned-congruent w z))
+
+-- and the bits of what bits stand for are those bits
+pub unsigned-signed : (w x : ℕ) → x < 2 ^ w → unsigned w (signed w x) ≡ x
+unsigned-signed w x h =
+    let e : pos (unsigned w (signed w x)) ≡ pos x = sym (unsigned-congruent w (signed w x)) ∙ signed-congruent w x h in
+    cc

@@ -3,3 +3,4 @@ pub mod Limits
 pub mod Field
 pub mod Part
 pub mod Signed
+pub mod Wrote

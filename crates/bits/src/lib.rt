@@ -1,4 +1,4 @@
-// Fields of bits in bytes, the most significant bit first, read at any place and width.
+// Fields of bits in bytes, the most significant bit first, read and written at any place and width.
 ghost use mathlib.Core.Path.{_≡_};
 ghost use Prim.Native.Nat.{_+_, _*_, _^_, _<_, _≤_, min};
 ghost use lib.ListN.{length};
@@ -6,6 +6,11 @@ ghost use Rattle.bits.specs.Field.{bit, field};
 ghost use Rattle.bits.specs.Limits.{most-bits, most-signed-bits};
 ghost use Rattle.bits.specs.Part.{part};
 ghost use Rattle.bits.specs.Signed.{signed, InRange, StandsFor};
+
+pub mod writing;
+
+pub use writing::write_field;
+pub use writing::write_signed;
 
 /// The most bits that one field has.
 pub const MOST_BITS: u32 = 64;

@@ -2,3 +2,4 @@ pub mod Making
 pub mod Reading
 pub mod Scanning
 pub mod Within
+pub mod Combining

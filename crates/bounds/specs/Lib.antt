@@ -6,5 +6,9 @@ pub mod Faults
 pub mod Rows
 pub mod Meaning
 pub mod Spoiled
+pub mod DrawnIn
 pub mod Laws
+pub mod RowList
+pub mod Joined
+pub mod Margin
 pub mod Told

@@ -3,6 +3,7 @@ ghost use mathlib.Core.Bool.{true};
 ghost use mathlib.Core.Path.{_≡_};
 ghost use Rattle.bounds.specs.Reach.{ends-in-reach, has-end};
 
+pub mod draw;
 pub mod make;
 
 /// The time of `to` less the time of `from` is at least `lower` and at most `upper`, where each is present.

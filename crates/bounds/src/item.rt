@@ -1,5 +1,6 @@
 // What stands at a place of a source.
 ghost use mathlib.Core.Path.{_≡_};
+ghost use Rattle.bounds.specs.DrawnIn.{drawn-in};
 ghost use Rattle.bounds.specs.Faults.{no-such-place};
 ghost use Rattle.bounds.specs.Rows.{row-item};
 use crate::bound::Bound;
@@ -24,6 +25,19 @@ impl Item {
         match Bound::new(row) {
             Ok(bound) => Item::Bound(bound),
             Err(fault) => Item::Spoiled(fault),
+        }
+    }
+
+    /// The item under a margin of so many seconds: a bound is drawn in at both ends, and a spoiled item stays as it is.
+    pub fn drawn_in(&self, seconds: u8) -> Item
+        ensures { λ r. ⌜ r ≡ drawn-in seconds (now (self .entry)) ⌝ }
+    {
+        match self {
+            Item::Bound(bound) => match bound.drawn_in(seconds) {
+                Ok(drawn) => Item::Bound(drawn),
+                Err(fault) => Item::Spoiled(fault),
+            },
+            Item::Spoiled(fault) => Item::Spoiled(*fault),
         }
     }
 }

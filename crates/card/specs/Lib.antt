@@ -4,3 +4,6 @@ pub mod Layout
 pub mod Opening
 pub mod Laws
 pub mod Meaning
+pub mod Records
+pub mod Writing
+pub mod Rewriting

@@ -2,6 +2,12 @@
 pub mod layout;
 pub mod reading;
 pub mod refusal;
+pub mod rewriting;
+pub mod writing;
 
 pub use reading::Card;
 pub use refusal::CardRefusal;
+pub use refusal::RewriteRefusal;
+pub use refusal::WriteRefusal;
+pub use rewriting::rewrite;
+pub use writing::write_card;

@@ -68,7 +68,7 @@ fn has_end(lower: Option<i32>, upper: Option<i32>) -> bool
 }
 
 // Whether each end that is present is in reach.
-fn in_reach(lower: Option<i32>, upper: Option<i32>) -> bool
+pub(super) fn in_reach(lower: Option<i32>, upper: Option<i32>) -> bool
     ensures { λ r. ⌜ r ≡ ends-in-reach lower upper ⌝ }
 {
     end_in_reach(lower) && end_in_reach(upper)
