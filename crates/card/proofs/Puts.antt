@@ -1,9 +1,9 @@
 -- A header and a record, one field after another.
-use mathlib.Core.Path.{_≡_, refl, sym, ap, _∙_}
+use mathlib.Core.Path.{_≡_, ap, _∙_}
 use mathlib.Core.List.{List}
 use mathlib.Core.Bool.{true}
 use mathlib.Core.Logic.{_⊎_, inl, inr}
-use Prim.Native.Nat.{ℕ, _+_, _-_, _*_, _^_, _<_, _≤_}
+use Prim.Native.Nat.{ℕ, _+_, _-_, _*_, _<_, _≤_}
 use native.Mathlib.Omega.{arith}
 use lib.Dec.{eqb}
 use lib.IntN.{ℤ, pos, negsuc}
@@ -20,11 +20,10 @@ use Rattle.bits.specs.Wrote.{KeptOutside, Wrote}
 use Rattle.bits.proofs.Signs.{signed-unsigned, unsigned-lt}
 use Rattle.bits.proofs.Writes.{kept-none, kept-within, field-kept, field-written}
 use Rattle.bounds.specs.declared.bound.Bound.{Bound as BoundT}
-use Rattle.bounds.specs.declared.row.Row.{Row}
 use Rattle.bounds.specs.Limits.{most-steps, most-items}
 use Rattle.bounds.specs.Reach.{end-in-reach}
 use Rattle.card.specs.declared.layout.Field.{Field}
-use Rattle.card.specs.Layout.{edition-field, steps-field, count-field, spare-field, from-field, to-field, lower-present-field, upper-present-field, lower-field, upper-field, edition-number, header-start, header-bits, header-bytes, record-bits, bits-at, signed-at, is-set-at, row-at}
+use Rattle.card.specs.Layout.{edition-field, steps-field, count-field, spare-field, from-field, to-field, lower-present-field, upper-present-field, lower-field, upper-field, edition-number, header-start, header-bits, header-bytes, record-bits, row-at}
 use Rattle.card.specs.Records.{HasHeader, bound-row}
 
 -- the write of a field in the part that begins at s

@@ -2,10 +2,10 @@
 use mathlib.Core.Path.{_≡_, refl, sym, ap, subst, _∙_}
 use mathlib.Core.Bool.{false}
 use mathlib.Core.List.{List, [], _∷_}
-use mathlib.Core.Logic.{_⊎_, inl, inr}
-use Prim.Native.Nat.{ℕ, zero, suc, _+_, _*_, _<_, _≤_}
+use mathlib.Core.Logic.{inl}
+use Prim.Native.Nat.{ℕ, zero, suc, _+_, _*_, _≤_}
 use native.Mathlib.Omega.{arith}
-use lib.ListN.{length, take, drop}
+use lib.ListN.{length, take}
 use Rattle.std.specs.shelf.Lists.{All}
 use Rattle.std.specs.shelf.Maps.{nth}
 use Rattle.std.specs.declared.option.Option.the-variants.{Some, None}
@@ -20,8 +20,8 @@ use Rattle.bounds.specs.Meaning.{Meaning, Below}
 use Rattle.bounds.specs.Rows.{row-item}
 use Rattle.bounds.specs.Spoiled.{first-spoiled}
 use Rattle.bounds.specs.Told.{beyond-limits}
-use Rattle.card.specs.Layout.{header-start, header-bits, record-bits, steps-of, count-of, row-at, item-at, items-of, listed}
-use Rattle.card.specs.Records.{HasHeader, HasRecords, bound-row}
+use Rattle.card.specs.Layout.{header-start, header-bits, record-bits, steps-of, row-at, item-at, items-of, listed}
+use Rattle.card.specs.Records.{HasHeader, HasRecords}
 use Rattle.card.specs.Writing.{card-size, IsCardOf, WroteCard}
 use Rattle.card.proofs.Filling.{nth-within}
 use Rattle.card.proofs.Rows.{bound-row-item}

@@ -5,7 +5,6 @@ use Prim.Native.Nat.{ℕ, zero, suc, _<_}
 use native.Mathlib.Omega.{arith}
 use lib.Dec.{ltb}
 use lib.IntN.{ℤ, pos, negsuc}
-use Rattle.std.specs.Options.{isSome}
 use Rattle.std.specs.declared.option.Option.{Option}
 use Rattle.std.specs.declared.option.Option.the-variants.{Some, None}
 use Rattle.std.specs.declared.result.Result.{Result}
@@ -13,12 +12,11 @@ use Rattle.std.specs.declared.result.Result.the-variants.{Ok, Err}
 use Rattle.std.proofs.shelf.Tests.{and-parts, and-from, lt-ltb, cond-true}
 use Rattle.bounds.specs.declared.bound.Bound.{Bound as BoundT}
 use Rattle.bounds.specs.declared.fault.Fault.{Fault}
-use Rattle.bounds.specs.declared.item.Item.{Item}
 use Rattle.bounds.specs.declared.item.Item.the-variants.{Bound, Spoiled}
 use Rattle.bounds.specs.declared.row.LooseEnd.{LooseEnd}
 use Rattle.bounds.specs.declared.row.Row.{Row}
 use Rattle.bounds.specs.Loose.{is-zero, tidy, end-given}
-use Rattle.bounds.specs.Made.{where-true, bound-with, made-bound}
+use Rattle.bounds.specs.Made.{where-true, bound-with}
 use Rattle.bounds.specs.Reach.{has-end, ends-in-reach}
 use Rattle.bounds.specs.Rows.{item-made, row-item}
 use Rattle.bounds.proofs.Making.{made-in-reach}

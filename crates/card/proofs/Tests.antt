@@ -18,7 +18,7 @@ use Rattle.bounds.specs.declared.scan.SpoiledItem.{SpoiledItem}
 use Rattle.bounds.specs.Limits.{most-steps, most-items}
 use Rattle.bounds.specs.Meaning.{Meaning}
 use Rattle.bounds.specs.Spoiled.{first-spoiled, readable}
-use Rattle.bounds.specs.Told.{Told, told-spoiled, beyond-limits}
+use Rattle.bounds.specs.Told.{told-spoiled, beyond-limits}
 use Rattle.bounds.proofs.Reading.{readable-all}
 use Rattle.card.specs.declared.refusal.CardRefusal.the-variants.{Length, Header}
 use Rattle.card.specs.declared.refusal.WriteRefusal.the-variants.{Limits, Room}

@@ -1,8 +1,8 @@
 -- A source without a spoiled item has one card.
 use mathlib.Core.Path.{_≡_, refl, sym, ap, subst, _∙_}
 use mathlib.Core.List.{List}
-use mathlib.Core.Logic.{_⊎_, inl, inr}
-use Prim.Native.Nat.{ℕ, zero, suc, _+_, _-_, _*_, _/_, _%_, _<_, _≤_}
+use mathlib.Core.Logic.{inl, inr}
+use Prim.Native.Nat.{ℕ, zero, suc, _+_, _-_, _*_, _/_, _<_, _≤_}
 use native.Mathlib.Omega.{arith}
 use lib.Dec.{eqb}
 use lib.ListN.{length, getD, take, drop, length-take}
@@ -19,7 +19,7 @@ use Rattle.bounds.specs.declared.item.Item.{Item}
 use Rattle.bounds.specs.declared.item.Item.the-variants.{Bound, Spoiled}
 use Rattle.bounds.specs.Meaning.{Meaning}
 use Rattle.bounds.specs.Spoiled.{first-spoiled}
-use Rattle.card.specs.Layout.{header-bits, record-bits, steps-of, count-of, row-at, item-at, items-of}
+use Rattle.card.specs.Layout.{header-bits, record-bits, steps-of, count-of, row-at, item-at}
 use Rattle.card.specs.Meaning.{card-meaning}
 use Rattle.card.specs.Opening.{open-refusal}
 use Rattle.card.specs.Rewriting.{opened-or, rewrite-refusal}

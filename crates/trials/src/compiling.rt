@@ -1,6 +1,12 @@
 // Examples of compilation: what it answers, and what it leaves in the tables.
+use bounds::Rows;
+use bounds::list::read::RowsSource;
 use card::Card;
+use card::WriteRefusal;
 use card::reading::CardSource;
+use card::refusal::WriteRefusalDebug;
+use card::refusal::WriteRefusalPartialEq;
+use card::write_card;
 use network::GroupEntry;
 use network::Kind;
 use network::Link;
@@ -105,4 +111,25 @@ fn no_timetable_zeroes_the_distances() -> Result<(), Fail> {
     check_eq(distances, [0, 0, 0, 0, 7])?;
     check_eq(groups, [GROUP; 2])?;
     check_eq(links, [LINK; 2])
+}
+
+#[test]
+fn no_step_is_beyond_the_limits() -> Result<(), Fail> {
+    let source = Rows::new(0, &[]);
+    let mut distances = [7; 1];
+    let mut groups = [GROUP; 1];
+    let mut links = [LINK; 1];
+    let Err(refusal) = compile(&source, &mut distances, &mut groups, &mut links) else {
+        return Err(Fail::new("compiled"));
+    };
+    check_eq(refusal, Refusal::Limits)?;
+    check_eq(refusal.number(), 7)?;
+    check_eq(distances, [7; 1])?;
+    let mut out = [0x55; 3];
+    let Err(unwritten) = write_card(&source, &mut out) else {
+        return Err(Fail::new("written"));
+    };
+    check_eq(unwritten, WriteRefusal::Limits)?;
+    check_eq(unwritten.number(), 7)?;
+    check_eq(out, [0x55; 3])
 }

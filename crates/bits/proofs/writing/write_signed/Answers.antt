@@ -1,6 +1,6 @@
 -- What is left to show of `write_signed`.
 use mathlib.Core.Path.{_≡_, refl, ap, _∙_}
-use Prim.Native.Nat.{ℕ, _%_, _^_, min}
+use Prim.Native.Nat.{ℕ, min}
 use native.Mathlib.Nat.{mod-eq-of-lt}
 use native.Mathlib.Omega.{arith}
 use borrow.Author.Needs.{needs}

@@ -1,8 +1,7 @@
 -- What is left to show of `put_bound`.
-use mathlib.Core.Path.{_≡_, sym, ap, subst, _∙_}
-use native.Mathlib.Omega.{arith}
+use mathlib.Core.Path.{_≡_, ap, subst, _∙_}
 use borrow.Author.Needs.{needs}
-use lib.IntN.{ℤ, pos}
+use lib.IntN.{pos}
 use mir.Syntax.{w32}
 use mir.Val.{SFits, boolByte, toZ, ofZ}
 use Rattle.std.specs.Options.{isSome, valueOr}

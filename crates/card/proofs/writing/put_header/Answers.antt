@@ -1,7 +1,6 @@
 -- What is left to show of `put_header`.
-use mathlib.Core.Path.{_≡_, subst}
+use mathlib.Core.Path.{subst}
 use Prim.Native.Nat.{_-_}
-use native.Mathlib.Omega.{arith}
 use Rattle.card.specs.Layout.{steps-field, count-field, header-start}
 use Rattle.card.proofs.Puts.{Put, header-put}
 use Rattle.card.proofs.writing.put_header.Needs as need

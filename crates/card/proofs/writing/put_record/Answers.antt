@@ -1,5 +1,5 @@
 -- What is left to show of `put_record`.
-use mathlib.Core.Path.{_≡_, subst}
+use mathlib.Core.Path.{subst}
 use native.Mathlib.Omega.{arith}
 use Rattle.bounds.specs.Meaning.{Below}
 use Rattle.bounds.specs.declared.item.Item.the-variants.{Bound}

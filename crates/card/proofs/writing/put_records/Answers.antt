@@ -1,5 +1,5 @@
 -- What is left to show of `put_records`.
-use mathlib.Core.Path.{_≡_, sym, _∙_}
+use mathlib.Core.Path.{_≡_, _∙_}
 use Prim.Native.Nat.{_+_, _*_}
 use native.Mathlib.Omega.{arith}
 use Rattle.bits.proofs.Writes.{kept-wider}
