@@ -25,7 +25,8 @@ use Rattle.card.specs.Records.{HasHeader, HasRecords}
 use Rattle.card.specs.Writing.{card-size, IsCardOf, WroteCard}
 use Rattle.card.proofs.Filling.{nth-within}
 use Rattle.card.proofs.Rows.{bound-row-item}
-use Rattle.card.proofs.Tests.{Within, within, opens, no-spoiled}
+use Rattle.bounds.proofs.Within.{Within, within}
+use Rattle.card.proofs.Tests.{opens, no-spoiled}
 
 -- lists
 
@@ -96,6 +97,7 @@ wrote-card m size xs ys zs e limits room none front header back records =
     let l = all .long in
     record {
       size = e;
+      fits = omega arith;
       card = subst (λ n. IsCardOf m (take n zs)) (sym e) (is-card m zs (within m limits) (omega arith) none h records);
       header = h;
       records = records;

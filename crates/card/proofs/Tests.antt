@@ -2,7 +2,7 @@
 use mathlib.Core.Path.{_≡_, refl, sym, ap, _∙_}
 use mathlib.Core.List.{List, [], _∷_}
 use mathlib.Core.Bool.{Bool, true, false, cond, not, _||_}
-use Prim.Native.Nat.{ℕ, zero, suc, _+_, _*_, _<_, _≤_}
+use Prim.Native.Nat.{ℕ, zero, suc, _+_, _*_, _≤_}
 use native.Mathlib.Omega.{arith}
 use lib.Dec.{ltb, eqb}
 use lib.ListN.{length}
@@ -15,11 +15,12 @@ use Rattle.bounds.specs.declared.fault.Fault.{Fault}
 use Rattle.bounds.specs.declared.item.Item.{Item}
 use Rattle.bounds.specs.declared.item.Item.the-variants.{Bound, Spoiled}
 use Rattle.bounds.specs.declared.scan.SpoiledItem.{SpoiledItem}
-use Rattle.bounds.specs.Limits.{most-steps, most-items}
+use Rattle.bounds.specs.Limits.{most-items}
 use Rattle.bounds.specs.Meaning.{Meaning}
 use Rattle.bounds.specs.Spoiled.{first-spoiled, readable}
 use Rattle.bounds.specs.Told.{told-spoiled, beyond-limits}
 use Rattle.bounds.proofs.Reading.{readable-all}
+use Rattle.bounds.proofs.Within.{within}
 use Rattle.card.specs.declared.refusal.CardRefusal.the-variants.{Length, Header}
 use Rattle.card.specs.declared.refusal.WriteRefusal.the-variants.{Limits, Room}
 use Rattle.card.specs.Layout.{edition-field, spare-field, edition-number, header-start, header-bytes, record-bytes, bits-at, count-of}
@@ -68,24 +69,6 @@ opens xs o =
     (or-from (not (eqb edition edition-number)) (not (eqb spare 0) || ltb most-items (count-of xs)) (not-from-true (eqb edition edition-number) (eq-eqb edition edition-number (o .edition)))
     (or-from (not (eqb spare 0)) (ltb most-items (count-of xs)) (not-from-true (eqb spare 0) (eq-eqb spare 0 (o .spare))) (le-ltb most-items (count-of xs) (o .few))))
     (eq-eqb (length xs) (header-bytes + record-bytes * count-of xs) (o .long))
-
--- limits
-
--- a source within the limits
-pub record Within (m : Meaning) : Type 0 where
-  pub some : 0 < m .steps
-  pub most : m .steps ≤ most-steps
-  pub few : length (m .items) ≤ most-items
-
-pub within : (m : Meaning) → beyond-limits m ≡ false → Within m
-within m e =
-    let p = or-parts (eqb (m .steps) 0) (ltb most-steps (m .steps) || ltb most-items (length (m .items))) e in
-    let q = or-parts (ltb most-steps (m .steps)) (ltb most-items (length (m .items))) (p .1) in
-    record { some = positive (m .steps) (p .0); most = ltb-false most-steps (m .steps) (q .0); few = ltb-false most-items (length (m .items)) (q .1) }
-  where
-    positive : (n : ℕ) → eqb n 0 ≡ false → 0 < n
-    positive zero h = let q : _≡_ {A = ℕ} 0 1 = cc in absurd (omega arith)
-    positive (suc n) h = omega arith
 
 -- writing
 

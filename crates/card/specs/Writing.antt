@@ -2,7 +2,7 @@
 use mathlib.Core.Path.{_≡_}
 use mathlib.Core.Bool.{cond}
 use mathlib.Core.List.{List}
-use Prim.Native.Nat.{ℕ, _+_, _*_}
+use Prim.Native.Nat.{ℕ, _+_, _*_, _≤_}
 use lib.Dec.{ltb}
 use lib.ListN.{length, take, drop}
 use Rattle.std.specs.Options.{mapped}
@@ -34,9 +34,10 @@ pub record IsCardOf (m : Meaning) (xs : List ℕ) : Type 0 where
   pub steps : steps-of xs ≡ m .steps
   pub items : items-of xs ≡ m .items
 
--- the first bytes of ys, as many as answered, are the card of the source, and those behind are as in xs
+-- the first bytes of ys, as many as answered, are the card of the source: its header, and a record for each bound; those behind are as in xs
 pub record WroteCard (m : Meaning) (answered : ℕ) (xs ys : List ℕ) : Type 0 where
   pub size : answered ≡ card-size m
+  pub fits : answered ≤ length ys
   pub card : IsCardOf m (take answered ys)
   pub header : HasHeader ys (m .steps) (length (m .items))
   pub records : HasRecords ys (m .items)

@@ -37,7 +37,7 @@ fn main(rt: LibcRuntime) -> io::Result<()> {
 fn make_card(rt: &LibcRuntime, job: &Job) -> io::Result<()> {
     let mut bytes = [0u8; MOST_CARD_BYTES];
     match write_card(&Rows::new(job.steps, &job.rows), &mut bytes) {
-        Ok(size) => print(rt, &bytes[0..size.min(MOST_CARD_BYTES)]),
+        Ok(size) => print(rt, &bytes[0..size]),
         Err(refusal) => {
             tell_refusal(rt, refusal.number(), refusal.place())?;
             Err(ErrorKind::InvalidData.into())

@@ -30,7 +30,7 @@ early-by-items m n distances groups links limits e long-distances long-groups lo
     ap (λ k. too-short k distances groups links) (sym e)
     ∙ or-from (ltb distances (n * n)) _ (le-ltb distances (n * n) long-distances) (or-from (ltb groups n) _ (le-ltb groups n long-groups) (le-ltb links (n * (n - 1)) long-links)) in
     cond-false (beyond-limits m) _ _ limits ∙ cond-false (too-short (m .steps) distances groups links) _ _ long
-    ∙ ap (λ xs. mapped told-spoiled (first-spoiled 0 xs)) (sym (readable-all (m .items) (within m limits .items))) ∙ ap (mapped told-spoiled) (sym is)
+    ∙ ap (λ xs. mapped told-spoiled (first-spoiled 0 xs)) (sym (readable-all (m .items) (within m limits .few))) ∙ ap (mapped told-spoiled) (sym is)
 
 pub spoiled-clears : (f : Fault) (place : ℕ) → leaves-distances (told-spoiled (record { place = place; fault = f })) ≡ false
 spoiled-clears NoSuchStep place = refl

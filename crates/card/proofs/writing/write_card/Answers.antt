@@ -13,7 +13,8 @@ use Rattle.card.specs.Layout.{header-bits, record-bits}
 use Rattle.card.specs.Records.{HasHeader}
 use Rattle.card.specs.Writing.{card-size}
 use Rattle.card.proofs.Rounds.{wrote-card}
-use Rattle.card.proofs.Tests.{within, refused-spoiled}
+use Rattle.bounds.proofs.Within.{within}
+use Rattle.card.proofs.Tests.{refused-spoiled}
 use Rattle.card.proofs.writing.write_card.Needs as need
 
 pub returns-in-Some : need.returns-in-Some
