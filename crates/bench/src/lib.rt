@@ -155,7 +155,7 @@ trait Crossed<T>: Copy {
 // Writes what is made of the entries to the front of `out`.
 fn write<T: Copy, U: Crossed<T>>(entries: &[T], out: &mut [U])
     requires { length entries.now ≤ length out.old }
-    ensures { out.new ≡ map made entries.now ++ drop (length entries.now) out.old }
+    ensures { out.new ≡ map U.made entries.now ++ drop (length entries.now) out.old }
 {
     for i in 0..entries.len() {
         out[i] = U::of(entries[i]);

@@ -1,4 +1,6 @@
 // Fields of bits in bytes, the most significant bit first, read and written at any place and width.
+#![tactic(auto)]
+
 ghost use Rattle.std.specs.Prelude.{◌≡◌, ◌+◌, ◌*◌, ◌^◌, ◌<◌, ◌≤◌, min, length};
 ghost use Rattle.bits.specs.Field.{bit, field};
 ghost use Rattle.bits.specs.Limits.{most_bits, most_signed_bits};

@@ -1,10 +1,9 @@
 -- What is made from the proofs of tests does not depend on which proofs they are.
-use Rattle.std.proofs.Common.{◌≡◌, ℕ, Bool, true, false, ◌&&◌, ℤ, pos, ◌+ℤ◌, ◌-ℤ◌, Some, None, Ok, Err, Option, Result, sym, refl, ap, ◌∙◌}
+use Rattle.std.proofs.Common.{◌≡◌, ℕ, Bool, true, false, ◌&&◌, ℤ, pos, ◌+ℤ◌, ◌-ℤ◌, Some, None, Ok, Err, Option, sym, refl, ap, ◌∙◌}
 use mathlib.Core.Bool.{Bool-set}
 use Rattle.std.specs.Option.{option_map}
 use Rattle.std.proofs.lemmas.Bool.{both_ways, and_from, cond-true}
 use Rattle.bounds.specs.declared.bound.Bound.{Bound}
-use Rattle.bounds.specs.declared.fault.Fault.{Fault}
 use Rattle.bounds.specs.declared.fault.Fault.TheVariants.{OutOfReach, NoEnd}
 use Rattle.bounds.specs.declared.row.Row.{Row}
 use Rattle.bounds.specs.DrawnIn.{raised, lowered, bound_drawn_in}

@@ -1,5 +1,5 @@
 -- What a source means: a number of steps and a list of items, under a law.
-use Rattle.std.specs.Prelude.{◌≡◌, ℕ, ◌+◌, ◌^◌, ◌<◌, min, cond, List, length, Err, Result, nat_lt}
+use Rattle.std.specs.Prelude.{ℕ, ◌+◌, ◌^◌, ◌<◌, min, cond, List, length, Err, Result, nat_lt}
 use Rattle.std.specs.Option.{ok_or}
 use Rattle.std.specs.List.{AllByRecursion as All, slice_get}
 use Rattle.bounds.specs.declared.item.Item.{Item}

@@ -1,5 +1,5 @@
 -- Which ends a bound may have. Names no type of the crate, so that the invariant of `Bound` can cite it.
-use Rattle.std.specs.Prelude.{Bool, true, false, ◌&&◌, ◌||◌, ℤ, pos, neg_ℤ, is_some, Some, None, Option, int_le}
+use Rattle.std.specs.Prelude.{Bool, true, ◌&&◌, ◌||◌, ℤ, pos, neg_ℤ, is_some, Some, None, Option, int_le}
 use Rattle.bounds.specs.Limits.{horizon}
 
 -- an end is present

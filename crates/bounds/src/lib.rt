@@ -1,4 +1,6 @@
 // Bounds between the steps of a job, the interface of what lists them, and sources made of rows and of other sources.
+#![tactic(auto)]
+
 pub mod bound;
 pub mod fault;
 pub mod item;

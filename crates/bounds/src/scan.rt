@@ -17,7 +17,7 @@ pub struct SpoiledItem {
 
 /// Whether a source has no step, or more steps or items than are compiled.
 pub fn beyond_limits<S: Source>(source: &S) -> bool
-    ensures { result ≡ beyond_limits (meaning source.now) }
+    ensures { result ≡ beyond_limits (S.meaning source.now) }
 {
     let steps = source.steps();
     steps == 0 || steps > MOST_STEPS || source.count() > MOST_ITEMS
@@ -25,7 +25,7 @@ pub fn beyond_limits<S: Source>(source: &S) -> bool
 
 /// The first spoiled item among those that can be read.
 pub fn first_spoiled<S: Source>(source: &S) -> Option<SpoiledItem>
-    ensures { result ≡ first_spoiled 0 (readable (meaning source.now).items) }
+    ensures { result ≡ first_spoiled 0 (readable (S.meaning source.now).items) }
 {
     for place in 0..MOST_ITEMS as usize {
         let Ok(item) = source.item(place) else {

@@ -1,4 +1,6 @@
 // A card: time bounds between steps, packed into the bits of bytes.
+#![tactic(auto)]
+
 pub mod layout;
 pub mod reading;
 pub mod refusal;

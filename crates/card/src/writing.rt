@@ -22,7 +22,7 @@ use bounds::{Bound, Item, Source, beyond_limits, first_spoiled};
 
 /// Writes a source as a card, and answers how many bytes that took. Refuses beyond the limits, then without the room, then for the first spoiled item; then `out` stays as it was.
 pub fn write_card<S: Source>(source: &S, out: &mut [u8]) -> Result<usize, WriteRefusal>
-    ensures { MatchResult result (λ size. (write_refusal (meaning source.now) (length out.old) ≡ None) × WroteCard (meaning source.now) size out.old out.new) (λ e. (write_refusal (meaning source.now) (length out.old) ≡ Some (told_write e)) × (out.new ≡ out.old)) }
+    ensures { MatchResult result (λ size. (write_refusal (S.meaning source.now) (length out.old) ≡ None) × WroteCard (S.meaning source.now) size out.old out.new) (λ e. (write_refusal (S.meaning source.now) (length out.old) ≡ Some (told_write e)) × (out.new ≡ out.old)) }
 {
     if beyond_limits(source) {
         return Err(WriteRefusal::Limits);
@@ -42,12 +42,12 @@ pub fn write_card<S: Source>(source: &S, out: &mut [u8]) -> Result<usize, WriteR
 
 // Writes the record of each bound of the list.
 fn put_records<S: Source>(source: &S, count: u16, out: &mut [u8])
-    requires count { count ≡ length (meaning source.now).items }
+    requires count { count ≡ length (S.meaning source.now).items }
     requires few { count ≤ most_items }
-    requires steps { (meaning source.now).steps ≤ most_steps }
+    requires steps { (S.meaning source.now).steps ≤ most_steps }
     requires room { header_bits + record_bits * count ≤ 8 * length out.old }
     ensures kept { KeptOutside out.old out.new header_bits (header_bits + record_bits * count) }
-    ensures records { HasRecords out.new (meaning source.now).items }
+    ensures records { HasRecords out.new (S.meaning source.now).items }
 {
     for place in 0..count {
         put_record(source, place as usize, out);
@@ -57,10 +57,10 @@ fn put_records<S: Source>(source: &S, count: u16, out: &mut [u8])
 // Writes the record of the bound at a place, if a bound stands there.
 fn put_record<S: Source>(source: &S, place: usize, out: &mut [u8])
     requires few { place < most_items }
-    requires steps { (meaning source.now).steps ≤ most_steps }
+    requires steps { (S.meaning source.now).steps ≤ most_steps }
     requires room { header_bits + record_bits * place + record_bits ≤ 8 * length out.old }
     ensures kept { KeptOutside out.old out.new (header_bits + record_bits * place) (header_bits + record_bits * place + record_bits) }
-    ensures holds { (b : BoundT) → Ok (BoundItem b) ≡ read_at (meaning source.now).items place → row_at out.new (header_bits + record_bits * place) ≡ bound_row b }
+    ensures holds { (b : BoundT) → Ok (BoundItem b) ≡ read_at (S.meaning source.now).items place → row_at out.new (header_bits + record_bits * place) ≡ bound_row b }
 {
     let Ok(item) = source.item(place) else {
         return;

@@ -1,9 +1,8 @@
 -- The lines of a job, one after the other, and the rows collected so far.
-use Rattle.std.proofs.Common.{◌≡◌, ℕ, suc, ◌+◌, ◌<◌, ◌≤◌, List, [], ◌∷◌, ◌++◌, length, Ok, Err, Result, sym, refl, ap, ◌∙◌, append_assoc, arith, length-drop}
+use Rattle.std.proofs.Common.{◌≡◌, ℕ, suc, ◌+◌, ◌<◌, List, [], ◌∷◌, ◌++◌, length, Result, sym, refl, ap, ◌∙◌, append_assoc, arith, length-drop}
 use Rattle.bounds.specs.declared.row.Row.{Row}
 use Rattle.jobtext.specs.declared.cut.Stop.TheVariants.{LineEnd}
 use Rattle.jobtext.specs.declared.line.Line.{Line}
-use Rattle.jobtext.specs.declared.line.Line.TheVariants.{Blank, Steps, Bound}
 use Rattle.jobtext.specs.declared.line.NotALine.{NotALine}
 use Rattle.jobtext.specs.Cut.{stop_place, first_piece, after_piece}
 use Rattle.jobtext.specs.Line.{line_of}

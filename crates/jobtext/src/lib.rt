@@ -1,4 +1,6 @@
 // A job as text: its lines, the words of a line, and what they say.
+#![tactic(auto)]
+
 mod cut;
 pub mod job;
 pub mod line;

@@ -56,7 +56,7 @@ pub fn list_card(heap: Global, bytes: &[u8]) -> Result<Listing, AllocError>
 
 /// The text for the bounds of a source: a refusal where it does not compile, else its listing. Fails only for want of memory.
 pub fn list_source<S: Source>(heap: Global, source: &S) -> Result<Listing, AllocError>
-    ensures { IfOk result (JobAnswer (meaning source.now)) }
+    ensures { IfOk result (JobAnswer (S.meaning source.now)) }
 {
     let mut distances = [0; MOST_DISTANCES];
     let mut groups = [NO_GROUP; MOST_GROUPS];

@@ -30,11 +30,11 @@ pub fn compile<S: Source>(
     groups: &mut [GroupEntry],
     links: &mut [Link],
 ) -> Result<Compiled, Refusal>
-    ensures answer { Answered (meaning source.now) (early_refusal (meaning source.now) (length distances.old) (length groups.old) (length links.old)) result }
-    ensures tables { Tabled (meaning source.now) result distances.new groups.new links.new }
-    ensures unique { OneDistance (meaning source.now) }
-    ensures distances { DistancesAfter (meaning source.now).steps result distances.old distances.new }
-    ensures groups { GroupsAfter (meaning source.now).steps result groups.old groups.new }
+    ensures answer { Answered (S.meaning source.now) (early_refusal (S.meaning source.now) (length distances.old) (length groups.old) (length links.old)) result }
+    ensures tables { Tabled (S.meaning source.now) result distances.new groups.new links.new }
+    ensures unique { OneDistance (S.meaning source.now) }
+    ensures distances { DistancesAfter (S.meaning source.now).steps result distances.old distances.new }
+    ensures groups { GroupsAfter (S.meaning source.now).steps result groups.old groups.new }
     ensures links { LinksAfter result links.old links.new }
 {
     if beyond_limits(source) {

@@ -17,9 +17,9 @@ use bounds::{Bound, Item, Source};
 pub(crate) fn gather<S: Source>(source: &S, n: usize, table: &mut [i32])
     requires small { n ≤ most_steps }
     requires room { n * n ≤ length table.old }
-    requires steps { (meaning source.now).steps ≡ n }
+    requires steps { (S.meaning source.now).steps ≡ n }
     ensures rough { Rough n (entry_at n table.new) }
-    ensures narrowed { Narrowed n unbounded (entry_at n table.new) (λ t. All (Keeps t) (readable (meaning source.now).items)) }
+    ensures narrowed { Narrowed n unbounded (entry_at n table.new) (λ t. All (Keeps t) (readable (S.meaning source.now).items)) }
     ensures behind { drop (n * n) table.new ≡ drop (n * n) table.old }
 {
     unbind(n, table);

@@ -27,8 +27,8 @@ pub fn write_other_bytes_while_open(bytes: &[u8], out: &mut [u8]) -> Option<u16>
 
 /// Asks the card in the bytes for its steps, and then writes a source over it; `None` where it does not open or the source is not written.
 pub fn write_same_bytes_after_last_use<S: Source>(bytes: &mut [u8], source: &S) -> Option<u16>
-    ensures answer { elim result [ Some steps ↦ (open_refusal bytes.old ≡ None) × (write_refusal (meaning source.now) (length bytes.old) ≡ None) × (steps ≡ steps_of bytes.old) | None ↦ (is_some (open_refusal bytes.old) ≡ true) ⊎ (is_some (write_refusal (meaning source.now) (length bytes.old)) ≡ true) ] }
-    ensures bytes { elim result [ Some steps ↦ Holds (meaning source.now) bytes.old bytes.new | None ↦ bytes.new ≡ bytes.old ] }
+    ensures answer { elim result [ Some steps ↦ (open_refusal bytes.old ≡ None) × (write_refusal (S.meaning source.now) (length bytes.old) ≡ None) × (steps ≡ steps_of bytes.old) | None ↦ (is_some (open_refusal bytes.old) ≡ true) ⊎ (is_some (write_refusal (S.meaning source.now) (length bytes.old)) ≡ true) ] }
+    ensures bytes { elim result [ Some steps ↦ Holds (S.meaning source.now) bytes.old bytes.new | None ↦ bytes.new ≡ bytes.old ] }
 {
     let Ok(card) = Card::open(bytes) else {
         return None;

@@ -17,8 +17,8 @@ pub fn compile_other_tables_during_a_run<S: Source>(
     groups: &mut [GroupEntry],
     links: &mut [Link],
 ) -> (Result<Compiled, Refusal>, Result<Window, NoSuchStep>)
-    ensures answer { Answered (meaning source.now) (early_refusal (meaning source.now) (length distances.old) (length groups.old) (length links.old)) result.0 }
-    ensures tables { Tabled (meaning source.now) result.0 distances.new groups.new links.new }
+    ensures answer { Answered (S.meaning source.now) (early_refusal (S.meaning source.now) (length distances.old) (length groups.old) (length links.old)) result.0 }
+    ensures tables { Tabled (S.meaning source.now) result.0 distances.new groups.new links.new }
     ensures seen { result.1 ≡ look_answer run.now.steps run.now.entries.now run.now.state 0 }
 {
     let compiled = compile(source, distances, groups, links);
@@ -32,8 +32,8 @@ pub fn compile_same_tables_after_a_run<S: Source>(
     groups: &mut [GroupEntry],
     links: &mut [Link],
 ) -> Result<Compiled, Refusal>
-    ensures answer { Answered (meaning source.now) (early_refusal (meaning source.now) (length distances.old) (length groups.old) (length links.old)) result }
-    ensures tables { Tabled (meaning source.now) result distances.new groups.new links.new }
+    ensures answer { Answered (S.meaning source.now) (early_refusal (S.meaning source.now) (length distances.old) (length groups.old) (length links.old)) result }
+    ensures tables { Tabled (S.meaning source.now) result distances.new groups.new links.new }
 {
     let first = compile(source, distances, groups, links)?;
     let Ok(run) = Run::open(source.steps(), first.links, groups, links) else {

@@ -22,7 +22,7 @@ returns-then-n-eq0 c = record {
 pub returns-then-distances-pairs : goal.returns-then-distances-pairs
 returns-then-distances-pairs c = record {
   answer = λ few.
-      answered_early _ _ _ _ _ _ _ _ _ _ (early_tables _ few _ c.if-n-eq0.false c.if-n-gt-MOST-GROUPS.false c.if-bounds-gt-MOST-ROWS.false _ _ _ c.then-distances-pairs.either)
+      answered_early _ _ _ _ _ _ _ _ _ _ (early_tables _ few _ c.if-n-eq0.false c.if-n-gt-MOST_GROUPS.false c.if-bounds-gt-MOST_ROWS.false _ _ _ c.then-distances-pairs.either)
       (record { outcome = c.refused-then-distances-pairs.ensures; distances_left = refl; groups_left = refl; links_left = refl });
   distances = refl;
 }
@@ -30,8 +30,8 @@ returns-then-distances-pairs c = record {
 most : (n : ℕ) → n ≤ 64 → n * (n - 1) ≤ 64 * 63
 most n l = mul-le-mul {n₁ = n} {m₁ = n - 1} {n₂ = 64} {m₂ = 63} l (omega arith)
 
-pub slice-bounds-link-slots-end : goal.slice-bounds-link-slots-end
-slice-bounds-link-slots-end c = let fit = most c.args.steps c.if-n-gt-MOST-GROUPS.false in search rules
+pub slice_bounds-link_slots-end : goal.slice_bounds-link_slots-end
+slice_bounds-link_slots-end c = let fit = most c.args.steps c.if-n-gt-MOST_GROUPS.false in search rules
 
 pub loop-preserved : goal.loop-preserved
 loop-preserved c = behind _ _ c.compile.result _ _ c.new-source.ensures.0 c.compile.ensures.distances ∙ c.loop.invariant
@@ -52,16 +52,16 @@ module _ (c : After-compile-2) (few : c.args.steps < 2 ^ 16) where
 
   -- only an item can be refused early, at the tables of the compilation as at the handed ones
   by_items : (d g l : ℕ) → c.args.steps * c.args.steps ≤ d → c.args.steps ≤ g → c.args.steps * (c.args.steps - 1) ≤ l → early_refusal the_job d g l ≡ option_map told_spoiled (first_spoiled 0 the_job.items)
-  by_items = early_items c.args.steps few c.args.bounds.now c.if-n-eq0.false c.if-n-gt-MOST-GROUPS.false c.if-bounds-gt-MOST-ROWS.false
+  by_items = early_items c.args.steps few c.args.bounds.now c.if-n-eq0.false c.if-n-gt-MOST_GROUPS.false c.if-bounds-gt-MOST_ROWS.false
 
   compiled_early : early_refusal the_job (length c.loop.distances) (length c.loop.group_table) (length c.loop.link_table) ≡ option_map told_spoiled (first_spoiled 0 the_job.items)
   compiled_early =
-      let fit = most c.args.steps c.if-n-gt-MOST-GROUPS.false in
+      let fit = most c.args.steps c.if-n-gt-MOST_GROUPS.false in
       let room : length c.loop.link_table ≡ c.args.steps * (c.args.steps - 1) = c.loop.auto.link_table ∙ front_length (c.args.steps * (c.args.steps - 1)) _ (search rules) in
       by_items _ _ _ (omega (arith, c.loop.auto.distances)) (omega (arith, each c)) (omega arith)
 
   handed_early : early_refusal the_job (length c.args.distances.now) (length c.args.groups.now) (length c.args.links.now) ≡ option_map told_spoiled (first_spoiled 0 the_job.items)
-  handed_early = by_items _ _ _ c.if-distances-pairs.false c.if-groups-n.false c.if-links-most-links.false
+  handed_early = by_items _ _ _ c.if-distances-pairs.false c.if-groups-n.false c.if-links-most_links.false
 
 pub returns-in-Ok : goal.returns-in-Ok
 returns-in-Ok c =

@@ -9,12 +9,12 @@ use Rattle.bits.proofs.read_field.Goals as goal
 pub loop-i-init : goal.loop-i-init
 loop-i-init c = sym (field_none c.args.bytes.now c.args.start)
 
-pub overflow-mul-value : goal.overflow-mul-value
-overflow-mul-value c = record { fits = omega (arith, field_fits c.args.bytes.now c.args.start c.loop-i.i most_bits (omega arith)) }
+pub overflow_mul-value : goal.overflow_mul-value
+overflow_mul-value c = record { fits = omega (arith, field_fits c.args.bytes.now c.args.start c.loop-i.i most_bits (omega arith)) }
 
-pub overflow-add-value : goal.overflow-add-value
-overflow-add-value c =
-    let b : c.read-bit-bit.result < 2 = subst (λ n. n < 2) (sym c.read-bit-bit.ensures) (bit_lt _ _) in
+pub overflow_add-value : goal.overflow_add-value
+overflow_add-value c =
+    let b : c.read_bit-bit.result < 2 = subst (λ n. n < 2) (sym c.read_bit-bit.ensures) (bit_lt _ _) in
     record { fits = omega (arith, field_fits c.args.bytes.now c.args.start c.loop-i.i most_bits (omega arith)) }
 
 pub loop-i-preserved : goal.loop-i-preserved
@@ -29,6 +29,6 @@ returns c =
     let v : c.loop-i.value ≡ field xs s w = c.loop-i.invariant ∙ ap (field xs s) e in
     record {
       value = v;
-      within = λ l. v ∙ field_part xs s w (λ i. (c.type-inv.bytes i).fits) l;
+      within = λ l. v ∙ field_part xs s w (λ i. (c.type_inv.bytes i).fits) l;
       small = omega (arith, field_lt xs s w);
     }

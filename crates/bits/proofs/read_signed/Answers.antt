@@ -13,12 +13,12 @@ returns c =
     let xs = c.args.bytes.now in
     let s = c.args.start in
     let w : ℕ = min c.args.width most_signed_bits in
-    let r = c.sign-extended.result in
+    let r = c.sign_extended.result in
     let fits : SFits w32 r = search rules in
     let f : c.min-width.result ≡ w = omega arith in
     let g : min c.min-width.result most_bits ≡ w = omega arith in
-    let x : c.read-field.result ≡ field xs s w = omega (arith, ap (field xs s) g) in
-    let e : r ≡ signed w (field xs s w) = c.sign-extended.ensures ∙ ap (λ n. signed n c.read-field.result) f ∙ ap (signed w) x in
+    let x : c.read_field.result ≡ field xs s w = omega (arith, ap (field xs s) g) in
+    let e : r ≡ signed w (field xs s w) = c.sign_extended.ensures ∙ ap (λ n. signed n c.read_field.result) f ∙ ap (signed w) x in
     let v : to_z w32 (of_z w32 r) ≡ signed w (field xs s w) = to_z-of_z w32 r fits ∙ e in
     record {
       value = v;

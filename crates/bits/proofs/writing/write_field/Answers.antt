@@ -8,7 +8,7 @@ pub loop-i-init : goal.loop-i-init
 loop-i-init c = writing_none _ _ _ _
 
 pub loop-i-preserved : goal.loop-i-preserved
-loop-i-preserved c = writing_more _ _ _ _ _ _ _ _ c.loop-i.invariant refl c.write-bit.ensures
+loop-i-preserved c = writing_more _ _ _ _ _ _ _ _ c.loop-i.invariant refl c.write_bit.ensures
 
 pub returns : goal.returns
 returns c =

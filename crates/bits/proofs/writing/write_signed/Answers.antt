@@ -14,9 +14,9 @@ returns c =
     let w : ℕ = min c.args.width most_signed_bits in
     let e : c.min-width.result ≡ w = omega arith in
     let f : min c.min-width.result most_bits ≡ w = omega arith in
-    let u : c.unsigned-bits.result ≡ unsigned c.min-width.result z = search rules in
-    let g : c.unsigned-bits.result ≡ unsigned w z = u ∙ ap (λ n. unsigned n z) e in
-    let h : Wrote c.args.bytes.now c.write-field.new.bytes s w (unsigned w z) = wrote_as _ _ _ _ _ s w (unsigned w z) refl f g c.write-field.ensures in
+    let u : c.unsigned_bits.result ≡ unsigned c.min-width.result z = search rules in
+    let g : c.unsigned_bits.result ≡ unsigned w z = u ∙ ap (λ n. unsigned n z) e in
+    let h : Wrote c.args.bytes.now c.write_field.new.bytes s w (unsigned w z) = wrote_as _ _ _ _ _ s w (unsigned w z) refl f g c.write_field.ensures in
     record {
       wrote = h;
       again = λ r room. ap (signed w) (h.whole room ∙ mod-eq_of_lt (unsigned_lt w z)) ∙ signed_unsigned w z r;

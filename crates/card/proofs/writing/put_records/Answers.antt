@@ -10,8 +10,8 @@ loop-place-init g c = filling_none (g.S.Source.meaning c.args.source.now).items 
 
 pub loop-place-preserved : goal.loop-place-preserved
 loop-place-preserved g c =
-    filling_more (g.S.Source.meaning c.args.source.now).items c.args.out.now c.loop-place.out c.put-record.new.out c.loop-place.place
-    (omega arith) c.loop-place.invariant c.put-record.ensures.kept c.put-record.ensures.holds
+    filling_more (g.S.Source.meaning c.args.source.now).items c.args.out.now c.loop-place.out c.put_record.new.out c.loop-place.place
+    (omega arith) c.loop-place.invariant c.put_record.ensures.kept c.put_record.ensures.holds
 
 pub returns : goal.returns
 returns g c =

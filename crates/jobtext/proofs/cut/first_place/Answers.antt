@@ -1,4 +1,4 @@
-use Rattle.std.proofs.Common.{sym, ◌∙◌, arith}
+use Rattle.std.proofs.Common.{sym, arith}
 use Rattle.jobtext.proofs.Cutting.{place_here, place_more, place_none}
 use Rattle.jobtext.proofs.cut.first_place.Goals as goal
 

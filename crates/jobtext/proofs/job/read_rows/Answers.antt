@@ -1,4 +1,4 @@
-use Rattle.std.proofs.Common.{◌≡◌, ℕ, ◌+◌, ◌<◌, List, [], ◌∷◌, ◌++◌, length, Ok, vec_items, sym, ap, ◌∙◌, append-nil, arith, rules, true-eqb, false-eqb}
+use Rattle.std.proofs.Common.{◌≡◌, ℕ, ◌+◌, ◌<◌, List, [], ◌∷◌, ◌++◌, length, Ok, vec_items, sym, ap, ◌∙◌, append-nil, arith, true-eqb, false-eqb}
 use Rattle.std.proofs.lemmas.List.{nil_from_length}
 use Rattle.jobtext.specs.Job.{Said, job, rows_from}
 use Rattle.jobtext.specs.Words.{lines}
@@ -12,33 +12,33 @@ loop-rest-init c = (ap (λ rows. with_rows rows (rows_from c.args.header.steps c
 pub loop-rest-smaller : goal.loop-rest-smaller
 loop-rest-smaller c =
     let h : 0 < length c.loop-rest.rest.now = omega (arith, false-eqb _ _ c.loop-rest-test.ensures) in
-    omega (arith, ap length c.cut-at-line.ensures.rest, rest_shorter c.loop-rest.rest.now h)
+    omega (arith, ap length c.cut_at-line.ensures.rest, rest_shorter c.loop-rest.rest.now h)
 
 pub loop-rest-preserved : goal.loop-rest-preserved
 loop-rest-preserved c =
     let xs : List ℕ = c.loop-rest.rest.now in
     let h : 0 < length xs = omega (arith, false-eqb _ _ c.loop-rest-test.ensures) in
-    let next : Said = rows_from c.args.header.steps (c.loop-rest.number + 1) (lines c.cut-at-line.result.rest.now) in (
+    let next : Said = rows_from c.args.header.steps (c.loop-rest.number + 1) (lines c.cut_at-line.result.rest.now) in (
       elim c.match-said.branch [
-        | in-Blank w ↦ ap (λ v. with_rows (vec_items v) next) w.rows-is ∙ ap (with_rows (vec_items c.loop-rest.rows)) (sym (rows_read c.loop-rest.number xs _ _ h c.cut-at-line.ensures.piece c.cut-at-line.ensures.rest _ (sym c.read-line.ensures ∙ c.in-Ok.is ∙ ap Ok w.in-Blank.is) c.args.header.steps)) ∙ c.loop-rest.invariant.0
+        | in-Blank w ↦ ap (λ v. with_rows (vec_items v) next) w.rows-is ∙ ap (with_rows (vec_items c.loop-rest.rows)) (sym (rows_read c.loop-rest.number xs _ _ h c.cut_at-line.ensures.piece c.cut_at-line.ensures.rest _ (sym c.read_line.ensures ∙ c.in-Ok.is ∙ ap Ok w.in-Blank.is) c.args.header.steps)) ∙ c.loop-rest.invariant.0
         | in-Bound+in-Ok-push w ↦
             let grown : vec_items c.match-said.rows ≡ vec_items c.loop-rest.rows ++ (w.in-Bound.row ∷ []) = ap (λ v. vec_items v) w.rows-is ∙ w.in-Ok-push.ensures.items in
-            ap (λ rows. with_rows rows next) grown ∙ with_more (vec_items c.loop-rest.rows) w.in-Bound.row next ∙ ap (with_rows (vec_items c.loop-rest.rows)) (sym (rows_read c.loop-rest.number xs _ _ h c.cut-at-line.ensures.piece c.cut-at-line.ensures.rest _ (sym c.read-line.ensures ∙ c.in-Ok.is ∙ ap Ok w.in-Bound.is) c.args.header.steps)) ∙ c.loop-rest.invariant.0
+            ap (λ rows. with_rows rows next) grown ∙ with_more (vec_items c.loop-rest.rows) w.in-Bound.row next ∙ ap (with_rows (vec_items c.loop-rest.rows)) (sym (rows_read c.loop-rest.number xs _ _ h c.cut_at-line.ensures.piece c.cut_at-line.ensures.rest _ (sym c.read_line.ensures ∙ c.in-Ok.is ∙ ap Ok w.in-Bound.is) c.args.header.steps)) ∙ c.loop-rest.invariant.0
       ],
-      omega (arith, c.loop-rest.invariant.1, ap length c.cut-at-line.ensures.rest, rest_shorter xs h),
+      omega (arith, c.loop-rest.invariant.1, ap length c.cut_at-line.ensures.rest, rest_shorter xs h),
     )
 
 pub returns-in-Steps : goal.returns-in-Steps
 returns-in-Steps c =
     let xs : List ℕ = c.loop-rest.rest.now in
     let h : 0 < length xs = omega (arith, false-eqb _ _ c.loop-rest-test.ensures) in
-    sym c.loop-rest.invariant.0 ∙ ap (with_rows (vec_items c.loop-rest.rows)) (rows_read c.loop-rest.number xs _ _ h c.cut-at-line.ensures.piece c.cut-at-line.ensures.rest _ (sym c.read-line.ensures ∙ c.in-Ok.is ∙ ap Ok c.in-Steps.is) c.args.header.steps)
+    sym c.loop-rest.invariant.0 ∙ ap (with_rows (vec_items c.loop-rest.rows)) (rows_read c.loop-rest.number xs _ _ h c.cut_at-line.ensures.piece c.cut_at-line.ensures.rest _ (sym c.read_line.ensures ∙ c.in-Ok.is ∙ ap Ok c.in-Steps.is) c.args.header.steps)
 
-pub returns-in-default : goal.returns-in-default
-returns-in-default c =
+pub returns-in_default : goal.returns-in_default
+returns-in_default c =
     let xs : List ℕ = c.loop-rest.rest.now in
     let h : 0 < length xs = omega (arith, false-eqb _ _ c.loop-rest-test.ensures) in
-    sym c.loop-rest.invariant.0 ∙ ap (with_rows (vec_items c.loop-rest.rows)) (rows_read c.loop-rest.number xs _ _ h c.cut-at-line.ensures.piece c.cut-at-line.ensures.rest _ (sym c.read-line.ensures ∙ c.in-default.is) c.args.header.steps)
+    sym c.loop-rest.invariant.0 ∙ ap (with_rows (vec_items c.loop-rest.rows)) (rows_read c.loop-rest.number xs _ _ h c.cut_at-line.ensures.piece c.cut_at-line.ensures.rest _ (sym c.read_line.ensures ∙ c.in_default.is) c.args.header.steps)
 
 pub returns : goal.returns
 returns c =

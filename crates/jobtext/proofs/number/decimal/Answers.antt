@@ -20,4 +20,4 @@ loop-digit-preserved c =
 pub returns : goal.returns
 returns c =
     let xs = c.args.word.now in
-    record { value = digits_end c.args.most xs c.loop-digit.digit-index c.loop-digit.value _ (c.loop-digit.invariant.1 ∙ number_digits c.args.most xs (omega (arith, false-eqb _ _ c.if-is-empty.ensures))) c.loop-digit-test.false c.loop-digit.invariant.0; bound = c.loop-digit.invariant.0 }
+    record { value = digits_end c.args.most xs c.loop-digit.digit-index c.loop-digit.value _ (c.loop-digit.invariant.1 ∙ number_digits c.args.most xs (omega (arith, false-eqb _ _ c.if-is_empty.ensures))) c.loop-digit-test.false c.loop-digit.invariant.0; bound = c.loop-digit.invariant.0 }

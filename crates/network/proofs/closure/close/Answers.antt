@@ -20,6 +20,6 @@ loop-k-preserved c =
 
 pub returns : goal.returns
 returns c = record {
-  closed = when_map _ (closes_all _ _ _ _ (omega arith) c.loop-k.invariant.0) (refuted_hopeless _ _ _ _ c.loop-k.invariant.0) c.is-settled.ensures;
+  closed = when_map _ (closes_all _ _ _ _ (omega arith) c.loop-k.invariant.0) (refuted_hopeless _ _ _ _ c.loop-k.invariant.0) c.is_settled.ensures;
   behind = c.loop-k.invariant.1;
 }

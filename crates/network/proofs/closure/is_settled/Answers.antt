@@ -4,7 +4,7 @@ use Rattle.network.proofs.Lowering.{possible_same}
 use Rattle.network.proofs.closure.is_settled.Goals as goal
 
 pub loop-i-preserved : goal.loop-i-preserved
-loop-i-preserved c = below_more _ _ c.loop-i.invariant (possible_same _ _ _ _ c.loop-i-test.true c.row-line.ensures c.if-not-is-possible.ensures)
+loop-i-preserved c = below_more _ _ c.loop-i.invariant (possible_same _ _ _ _ c.loop-i-test.true c.row-line.ensures c.if-not-is_possible.ensures)
 
 pub returns : goal.returns
 returns c = record {

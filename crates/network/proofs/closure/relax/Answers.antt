@@ -14,7 +14,7 @@ loop-i-preserved c =
     let low : neg_ℤ (pos horizon) ≤ℤ t = omega (arith, ints, c.if-through.false) in
     let is : t ≡ entry_at n c.loop-i.table c.loop-i.i c.args.k = omega (arith, ints, c.at-through.ensures) in
     let near : Near n (number_at c.row-via.result) =
-    near_line n (number_at c.row-via.result) (entry_at n c.args.table.now c.args.k) c.args.k line (λ b q. c.requires.rough.high _ b c.requires.via q) c.if-not-is-possible.ensures in (
-      stage_more _ _ _ _ _ t _ c.requires.via c.loop-i-test.true c.loop-i.invariant.0 low near is line _ c.relax-row.ensures.lowered,
-      c.relax-row.ensures.behind ∙ c.loop-i.invariant.1,
+    near_line n (number_at c.row-via.result) (entry_at n c.args.table.now c.args.k) c.args.k line (λ b q. c.requires.rough.high _ b c.requires.via q) c.if-not-is_possible.ensures in (
+      stage_more _ _ _ _ _ t _ c.requires.via c.loop-i-test.true c.loop-i.invariant.0 low near is line _ c.relax_row.ensures.lowered,
+      c.relax_row.ensures.behind ∙ c.loop-i.invariant.1,
     )

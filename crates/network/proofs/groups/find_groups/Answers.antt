@@ -9,20 +9,20 @@ use Rattle.network.proofs.groups.find_groups.Goals.{then-leader-step, else-leade
 pub loop-step-init : goal.loop-step-init
 loop-step-init c = (groups_first _ _ _, refl)
 
-pub overflow-add-count : goal.overflow-add-count
-overflow-add-count c = omega (arith, groups_few _ _ _ _ _ c.loop-step.invariant.0)
+pub overflow_add-count : goal.overflow_add-count
+overflow_add-count c = omega (arith, groups_few _ _ _ _ _ c.loop-step.invariant.0)
 
 pub loop-step-preserved : goal.loop-step-preserved
 loop-step-preserved c =
-    let leader = c.leader-of-leader.result in
+    let leader = c.leader_of-leader.result in
     let step = c.loop-step.step in
-    let above = offset_above _ _ step leader c.requires.closed c.loop-step-test.true c.leader-of-leader.ensures in
+    let above = offset_above _ _ step leader c.requires.closed c.loop-step-test.true c.leader_of-leader.ensures in
     let count : c.if-leader-step.count ≡ c.loop-step.count + cond (eqb leader step) 1 0 =
     elim c.if-leader-step.branch [
       | then-leader-step w ↦ omega (arith, w.count-is, cond-true {A = ℕ} (eqb leader step) 1 0 (eq-eqb leader step w.if-leader-step.true))
       | else-leader-step w ↦ omega (arith, w.count-is, cond-false {A = ℕ} (eqb leader step) 1 0 (ne_eqb leader step w.if-leader-step.false))
     ] in (
-      groups_more _ _ _ _ _ (omega arith) _ _ c.loop-step.invariant.0 c.leader-of-leader.ensures (omega (arith, ints, above, c.at.ensures)) count,
+      groups_more _ _ _ _ _ (omega arith) _ _ c.loop-step.invariant.0 c.leader_of-leader.ensures (omega (arith, ints, above, c.at.ensures)) count,
       drop-set-lt _ _ _ _ c.loop-step-test.true ∙ c.loop-step.invariant.1,
     )
 

@@ -7,13 +7,13 @@ use Rattle.network.specs.Order.{link_before}
 use Rattle.queue.proofs.Growing.{grown_none, grown_more, grown_same}
 use Rattle.network.proofs.Keeping.{before_more, before_apart, before_skipped, table_held}
 use Rattle.network.proofs.links.find_links.Goals as goal
-use Rattle.network.proofs.links.find_links.Goals.{then-leads+in-ok-push-from, else-leads}
+use Rattle.network.proofs.links.find_links.Goals.{then-leads+in_ok-push_from, else-leads}
 
 pub loop-trigger-init : goal.loop-trigger-init
 loop-trigger-init c = grown_none link_before _ _ _ (λ x h. omega (arith, h.1))
 
-pub push-from-requires : goal.push-from-requires
-push-from-requires c =
+pub push_from-requires : goal.push_from-requires
+push_from-requires c =
     let d = entry_at c.args.n c.args.table.now in
     let f = links_from c.args.n d in
     record {
@@ -44,8 +44,8 @@ loop-trigger-preserved c =
     let k = c.loop-trigger.trigger in
     let more = sum_more (links_from n d) k in
     elim c.if-leads.branch [
-      | then-leads+in-ok-push-from w ↦
-          grown_same link_before _ _ _ _ _ w.queue-is (grown_more link_before _ _ _ _ _ _ _ _ _ (omega (arith, more)) (before_more n d gs k) (before_apart n d gs k) c.loop-trigger.invariant w.in-ok-push-from.ensures)
+      | then-leads+in_ok-push_from w ↦
+          grown_same link_before _ _ _ _ _ w.queue-is (grown_more link_before _ _ _ _ _ _ _ _ _ (omega (arith, more)) (before_more n d gs k) (before_apart n d gs k) c.loop-trigger.invariant w.in_ok-push_from.ensures)
       | else-leads w ↦
           grown_same link_before _ _ _ _ _ w.queue-is
           (grown_more link_before _ 0 _ _ _ _ _ _ _ (omega (arith, more)) (before_more n d gs k) (before_apart n d gs k) c.loop-trigger.invariant (grown_none link_before 0 _ _ (before_skipped n d gs k (sym w.if-leads.ensures))))

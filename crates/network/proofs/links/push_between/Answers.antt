@@ -10,9 +10,9 @@ returns c =
     let n = c.args.n in
     let d = entry_at n c.args.table.now in
     let gs = c.args.groups.now in
-    let most = c.kept-link-most.ensures in
-    let least = c.kept-link-least.ensures in
+    let most = c.kept_link-most.ensures in
+    let least = c.kept_link-least.ensures in
     grown_more link_before _ _ _ _ _ _ _ _ _ (omega (arith, most.count, least.count))
-    (between_kinds n d gs _ _ c.requires.trigger c.requires.target c.requires.trigger-leads c.requires.target-leads c.requires.apart _ _ most.link least.link)
+    (between_kinds n d gs _ _ c.requires.trigger c.requires.target c.requires.trigger_leads c.requires.target_leads c.requires.apart _ _ most.link least.link)
     (kinds_apart n d gs _ _ _ _ most.link least.link)
-    c.in-ok-push-kept.ensures c.in-ok-push-kept-2.ensures
+    c.in_ok-push_kept.ensures c.in_ok-push_kept-2.ensures

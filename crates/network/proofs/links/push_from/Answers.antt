@@ -7,13 +7,13 @@ use Rattle.network.specs.Order.{link_before}
 use Rattle.queue.proofs.Growing.{grown_none, grown_more, grown_same}
 use Rattle.network.proofs.Keeping.{from_more, from_apart, from_skipped}
 use Rattle.network.proofs.links.push_from.Goals as goal
-use Rattle.network.proofs.links.push_from.Goals.{then-target-trigger+then-leads+in-ok-push-between, else-target-trigger, else-target-trigger-via-then-target-trigger+else-leads, else-target-trigger-via-else-target-trigger}
+use Rattle.network.proofs.links.push_from.Goals.{then-target-trigger+then-leads+in_ok-push_between, else-target-trigger, else-target-trigger-via-then-target-trigger+else-leads, else-target-trigger-via-else-target-trigger}
 
 pub loop-target-init : goal.loop-target-init
 loop-target-init c = grown_none link_before _ _ _ (λ x h. omega (arith, h.2))
 
-pub push-between-requires : goal.push-between-requires
-push-between-requires c =
+pub push_between-requires : goal.push_between-requires
+push_between-requires c =
     let f = links_between (entry_at c.args.n c.args.table.now) c.args.trigger in
     record {
       small = c.requires.small;
@@ -21,8 +21,8 @@ push-between-requires c =
       entries = c.requires.entries;
       trigger = c.requires.inside;
       target = c.loop-target-test.true;
-      trigger-leads = c.requires.leader;
-      target-leads = sym c.if-leads.ensures;
+      trigger_leads = c.requires.leader;
+      target_leads = sym c.if-leads.ensures;
       apart = c.if-target-trigger.true;
       slots = omega (arith, c.loop-target.invariant.most, c.loop-target.invariant.size, c.requires.slots, sum_more f c.loop-target.target, sum_front f (c.loop-target.target + 1) c.args.n (omega arith));
       settled = c.requires.settled;
@@ -37,8 +37,8 @@ loop-target-preserved c =
     let k = c.loop-target.target in
     let more = sum_more (links_between d p) k in
     elim c.if-target-trigger.branch [
-      | then-target-trigger+then-leads+in-ok-push-between w ↦
-          grown_same link_before _ _ _ _ _ w.queue-is (grown_more link_before _ _ _ _ _ _ _ _ _ (omega (arith, more)) (from_more n d gs p k) (from_apart n d gs p k) c.loop-target.invariant w.in-ok-push-between.ensures)
+      | then-target-trigger+then-leads+in_ok-push_between w ↦
+          grown_same link_before _ _ _ _ _ w.queue-is (grown_more link_before _ _ _ _ _ _ _ _ _ (omega (arith, more)) (from_more n d gs p k) (from_apart n d gs p k) c.loop-target.invariant w.in_ok-push_between.ensures)
       | else-target-trigger w ↦ (
           let skipped : (k ≡ p) ⊎ (is_leader gs k ≡ false) = elim w.else-target-trigger.branch [
             | else-target-trigger-via-then-target-trigger+else-leads v ↦ inr (sym v.if-leads.ensures)

@@ -11,7 +11,7 @@ use Rattle.network.specs.Grid.{Rough, entry_at, unbounded}
 use Rattle.network.proofs.Narrowing.{Left, left_first, left_more, left_none}
 use Rattle.network.proofs.start.gather.Given as given
 use Rattle.network.proofs.start.gather.Goals as goal
-use Rattle.network.proofs.start.gather.Goals.{in-Bound, in-default-item}
+use Rattle.network.proofs.start.gather.Goals.{in-Bound, in_default-item}
 
 pub loop-place-init : goal.loop-place-init
 loop-place-init g c = (c.unbind.ensures.rough, left_first _ _ _ _ _ c.unbind.ensures.gaps refl, refl)
@@ -23,12 +23,12 @@ apply-requires g c =
     let below : Below m.steps (Bound c.in-Bound.bound) = subst (Below m.steps) c.in-Bound.is lawful in
     record { small = c.requires.small; room = omega arith; from = omega (arith, below.0, c.requires.steps); to = omega (arith, below.1, c.requires.steps); rough = c.loop-place.invariant.0 }
 
-pub returns-in-default : goal.returns-in-default
-returns-in-default g c =
+pub returns-in_default : goal.returns-in_default
+returns-in_default g c =
     let items = (g.S.Source.meaning c.args.source.now).items in
     record {
       rough = c.loop-place.invariant.0;
-      narrowed = left_none _ _ _ _ _ (read_end items c.loop-place.place _ c.in-default.ensures) c.loop-place.invariant.1;
+      narrowed = left_none _ _ _ _ _ (read_end items c.loop-place.place _ c.in_default.ensures) c.loop-place.invariant.1;
       behind = c.loop-place.invariant.2 ∙ c.unbind.ensures.behind;
     }
 
@@ -41,12 +41,12 @@ loop-place-preserved g c =
     let found = read_found items c.loop-place.place c.in-Ok.item c.in-Ok.ensures in
     let narrows : Narrowed n d e (λ t. Keeps t c.in-Ok.item) = elim c.match-item-2.branch [
       | in-Bound w ↦ simp (w.table-is, w.in-Bound.is) w.apply.ensures.narrowed
-      | in-default-item w ↦ simp (w.table-is, w.in-default-item.is) (λ t. (λ fits. (fits, tt), λ both. both.0))
+      | in_default-item w ↦ simp (w.table-is, w.in_default-item.is) (λ t. (λ fits. (fits, tt), λ both. both.0))
     ] in
-    let rough : Rough n e = elim c.match-item-2.branch [ in-Bound w ↦ simp w.table-is w.apply.ensures.rough | in-default-item w ↦ simp w.table-is c.loop-place.invariant.0 ] in
+    let rough : Rough n e = elim c.match-item-2.branch [ in-Bound w ↦ simp w.table-is w.apply.ensures.rough | in_default-item w ↦ simp w.table-is c.loop-place.invariant.0 ] in
     let behind : drop (n * n) c.match-item-2.table ≡ drop (n * n) c.unbind.new.table = elim c.match-item-2.branch [
       | in-Bound w ↦ ap (drop (n * n)) w.table-is ∙ w.apply.ensures.behind ∙ c.loop-place.invariant.2
-      | in-default-item w ↦ ap (drop (n * n)) w.table-is ∙ c.loop-place.invariant.2
+      | in_default-item w ↦ ap (drop (n * n)) w.table-is ∙ c.loop-place.invariant.2
     ] in
     (rough, left_more n unbounded d e _ _ _ _ found narrows c.loop-place.invariant.1, behind)
 

@@ -5,32 +5,32 @@ use Rattle.queue.proofs.Growing.{grown_none, grown_more, grown_same, grown_as}
 use Rattle.pacer.specs.Due.{Due, DueTable, uncued_count}
 use Rattle.pacer.proofs.Listing.{count_uncued, count_cued, count_front, due_more, due_apart, due_none, due_skipped, table_held}
 use Rattle.pacer.proofs.due.list_due.Goals as goal
-use Rattle.pacer.proofs.due.list_due.Goals.{then-is-none+in-ok-push-due, else-is-none}
+use Rattle.pacer.proofs.due.list_due.Goals.{then-is_none+in_ok-push_due, else-is_none}
 
 pub loop-step-init : goal.loop-step-init
 loop-step-init c = (grown_none due_before 0 _ _ (due_none _ _), c.new-queue.ensures.empty)
 
-pub push-due-requires : goal.push-due-requires
-push-due-requires c =
-    let more = count_uncued c.args.state.now c.loop-step.step (ap is_some (sym c.cue.ensures) ∙ c.if-is-none.ensures) in
+pub push_due-requires : goal.push_due-requires
+push_due-requires c =
+    let more = count_uncued c.args.state.now c.loop-step.step (ap is_some (sym c.cue.ensures) ∙ c.if-is_none.ensures) in
     let front = count_front c.args.state.now (c.loop-step.step + 1) c.args.steps (omega arith) in
-    omega (arith, more, front, c.loop-step.invariant.1, c.loop-step.invariant.0.size, ap length c.new-queue.ensures.kept, c.if-buffer-count-uncued.false, c.count_uncued.ensures)
+    omega (arith, more, front, c.loop-step.invariant.1, c.loop-step.invariant.0.size, ap length c.new-queue.ensures.kept, c.if-buffer-count_uncued.false, c.count_uncued.ensures)
 
 pub loop-step-preserved : goal.loop-step-preserved
 loop-step-preserved c =
     let s = c.args.state.now in
     let es = c.args.entries.now in
     let k = c.loop-step.step in
-    elim c.if-is-none.branch [
-      | then-is-none+in-ok-push-due w ↦ (
-          let test = ap is_some (sym c.cue.ensures) ∙ w.if-is-none.ensures in
+    elim c.if-is_none.branch [
+      | then-is_none+in_ok-push_due w ↦ (
+          let test = ap is_some (sym c.cue.ensures) ∙ w.if-is_none.ensures in
           let more = count_uncued s k test in
-          let pushed = w.in-ok-push-due.ensures in (
+          let pushed = w.in_ok-push_due.ensures in (
             grown_same due_before _ _ _ _ _ w.queue-is (grown_more due_before _ _ _ _ _ _ _ _ _ (omega (arith, more)) (due_more es s k test) (due_apart es s k) c.loop-step.invariant.0 pushed.grown),
             omega (arith, ap (λ q. q.len) w.queue-is, pushed.count, c.loop-step.invariant.1, more),
           ))
-      | else-is-none w ↦ (
-          let test = ap is_some (sym c.cue.ensures) ∙ w.if-is-none.ensures in
+      | else-is_none w ↦ (
+          let test = ap is_some (sym c.cue.ensures) ∙ w.if-is_none.ensures in
           let less = count_cued s k test in (
             grown_same due_before _ _ _ _ _ w.queue-is (subst (λ (j : ℕ). Grown due_before j (Due (k + 1) es s) c.new-queue.result c.loop-step.queue) (sym less) (grown_as due_before _ _ _ _ _ (due_skipped es s k test) c.loop-step.invariant.0)),
             omega (arith, ap (λ q. q.len) w.queue-is, c.loop-step.invariant.1, less),
@@ -54,7 +54,7 @@ returns c =
     ∙ ap (λ k. drop k c.args.buffer.now) (sym c.len.ensures) in
     record {
       number = number;
-      room = omega (arith, number, c.if-buffer-count-uncued.false, c.count_uncued.ensures);
+      room = omega (arith, number, c.if-buffer-count_uncued.false, c.count_uncued.ensures);
       entries = search rules;
       behind = search rules;
     }

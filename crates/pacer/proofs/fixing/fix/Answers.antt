@@ -19,4 +19,4 @@ loop-link-preserved c =
 pub returns : goal.returns
 returns c =
     sym (applied_all c.args.leader c.args.time c.args.links.now c.loop-link.link-index c.loop-link.state c.loop-link-test.false) ∙ c.loop-link.invariant
-    ∙ ap (applied c.args.leader c.args.time c.args.links.now) c.put-group.ensures
+    ∙ ap (applied c.args.leader c.args.time c.args.links.now) c.put_group.ensures

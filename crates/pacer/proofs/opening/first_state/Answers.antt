@@ -10,8 +10,8 @@ pub returns : goal.returns
 returns c =
     let links = c.args.links.now in
     record {
-      waits = c.waits-of.result;
-      counted = λ leader l. c.waits-of.ensures.counts leader l ∙ ap (count (least_onto leader)) (take_all (length links) links (omega arith));
-      sized = c.waits-of.ensures.sized;
-      begun = c.put-cue.ensures ∙ ap (λ s. with_cue s 0 0) (c.fix.ensures ∙ ap (λ own. fixed 0 0 own (fresh c.waits-of.result)) (c.of-own.ensures ∙ ap (λ s. spanned s links) c.span-of.ensures));
+      waits = c.waits_of.result;
+      counted = λ leader l. c.waits_of.ensures.counts leader l ∙ ap (count (least_onto leader)) (take_all (length links) links (omega arith));
+      sized = c.waits_of.ensures.sized;
+      begun = c.put_cue.ensures ∙ ap (λ s. with_cue s 0 0) (c.fix.ensures ∙ ap (λ own. fixed 0 0 own (fresh c.waits_of.result)) (c.of-own.ensures ∙ ap (λ s. spanned s links) c.span_of.ensures));
     }

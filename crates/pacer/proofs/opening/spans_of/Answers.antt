@@ -13,6 +13,6 @@ loop-place-preserved c =
     let links = c.args.links.now in
     let place = c.loop-place.place in
     let trigger = (get_or links place no_link).trigger in
-    let start : c.first-start.result ≡ first_of (span_at c.loop-place.spans trigger) place = c.first-start.ensures ∙ ap (λ s. first_of s place) c.span-of.ensures in
+    let start : c.first-start.result ≡ first_of (span_at c.loop-place.spans trigger) place = c.first-start.ensures ∙ ap (λ s. first_of s place) c.span_of.ensures in
     let P : List Span → Type 0 = λ spans. SpansSoFar links spans (place + 1) in
     subst P (sym (c.put.ensures ∙ ap (λ a. set c.loop-place.spans trigger (record { start = a; end = place + 1 })) start)) (spans_more links c.loop-place.spans place c.loop-place.invariant)

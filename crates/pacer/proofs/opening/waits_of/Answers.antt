@@ -18,6 +18,6 @@ loop-place-preserved c =
       | in-Least w ↦ (
           let few = waits_few links c.loop-place.waits place c.loop-place-test.true c.loop-place.invariant in
           subst P (sym (w.waits-is ∙ w.put.ensures))
-          (waits_least links _ place c.loop-place-test.true c.loop-place.invariant (get_or links place no_link).target w.saturating-add-more.result w.in-Least.is refl
-          (λ l. omega (arith, w.saturating-add-more.ensures, w.get.ensures, few _ l))))
+          (waits_least links _ place c.loop-place-test.true c.loop-place.invariant (get_or links place no_link).target w.saturating_add-more.result w.in-Least.is refl
+          (λ l. omega (arith, w.saturating_add-more.ensures, w.get.ensures, few _ l))))
     ]

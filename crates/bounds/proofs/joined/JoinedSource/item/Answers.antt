@@ -1,4 +1,4 @@
-use Rattle.std.proofs.Common.{◌≡◌, ◌-◌, ap, ◌∙◌, arith}
+use Rattle.std.proofs.Common.{◌-◌, ap, ◌∙◌, arith}
 use Rattle.bounds.specs.Meaning.{read_at}
 use Rattle.bounds.proofs.Combining.{read_append_left, read_append_right}
 use Rattle.bounds.proofs.joined.JoinedSource.item.Goals as goal

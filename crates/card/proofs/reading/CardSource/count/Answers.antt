@@ -4,4 +4,4 @@ use Rattle.card.proofs.Listing.{length_items}
 use Rattle.card.proofs.reading.CardSource.count.Goals as goal
 
 pub returns : goal.returns
-returns c = omega (arith, length_items c.args.self.now.bytes.now, c.min.ensures, c.count-in.ensures)
+returns c = omega (arith, length_items c.args.self.now.bytes.now, c.min.ensures, c.count_in.ensures)

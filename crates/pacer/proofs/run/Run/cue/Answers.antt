@@ -16,12 +16,12 @@ pub returns : goal.returns
 returns c =
     let run = c.args.self.now in
     record {
-      answer = c.in-default.ensures;
+      answer = c.in_default.ensures;
       state = search rules;
       kept = search rules;
       ready = λ right. (
         (let P : State → Type 0 = Indexed run.entries.now run.links.now run.spans in
-            subst P (sym c.take-cue.ensures) (indexed_cued _ _ _ _ c.args.step c.args.time right)),
+            subst P (sym c.take_cue.ensures) (indexed_cued _ _ _ _ c.args.step c.args.time right)),
         indexed_plain _ _ _ _ right,
       );
     }

@@ -13,14 +13,14 @@ returns c =
     let ks = c.args.links.now in
     let all : n - 0 ≡ n = omega arith in
     let some : m - 0 ≡ m = omega arith in
-    let start : LeadsItself n (take n es) 0 = subst (λ (k : ℕ). LeadsItself n (take k es) 0) all c.if-not-leads-itself.ensures in
-    let entries : EntriesFit n (take n es) = subst (λ (k : ℕ). EntriesFit n (take k es)) all c.if-not-entries-fit.ensures in
+    let start : LeadsItself n (take n es) 0 = subst (λ (k : ℕ). LeadsItself n (take k es) 0) all c.if-not-leads_itself.ensures in
+    let entries : EntriesFit n (take n es) = subst (λ (k : ℕ). EntriesFit n (take k es)) all c.if-not-entries_fit.ensures in
     let links : LinksFit n (take n es) (take m ks) =
-    subst (λ (k : ℕ). LinksFit n (take n es) (take k ks)) some (subst (λ (k : ℕ). LinksFit n (take k es) (take (m - 0) ks)) all c.if-not-links-fit.ensures) in
+    subst (λ (k : ℕ). LinksFit n (take n es) (take k ks)) some (subst (λ (k : ℕ). LinksFit n (take k es) (take (m - 0) ks)) all c.if-not-links_fit.ensures) in
     let fit : Fit n (take n es) (take m ks) = record { start = start; entries = entries; links = links } in
     record {
       answer = inr (
-        λ e. elim e [ inl z ↦ c.if-steps-eq0.false z | inr l ↦ omega (arith, l, c.if-steps-gt-MOST-STEPS.false) ],
+        λ e. elim e [ inl z ↦ c.if-steps-eq0.false z | inr l ↦ omega (arith, l, c.if-steps-gt-MOST_STEPS.false) ],
         inr (
           λ u. elim u [
             | inl short ↦ omega (arith, short, c.if-entries-n.false)
@@ -34,7 +34,7 @@ returns c =
         steps = refl;
         entries = ap (λ k. take k es) all;
         links = ap (λ k. take k ks) some;
-        begins = c.first-state-state.ensures;
-        ready = begins_indexed n (take (n - 0) es) (take (m - 0) ks) _ _ (omega (arith, c.if-steps-gt-MOST-STEPS.false)) (omega (arith, length-take (n - 0) es, c.if-entries-n.false)) c.if-not-entries-fit.ensures c.if-not-links-fit.ensures c.spans-of-spans.ensures c.first-state-state.ensures;
+        begins = c.first_state-state.ensures;
+        ready = begins_indexed n (take (n - 0) es) (take (m - 0) ks) _ _ (omega (arith, c.if-steps-gt-MOST_STEPS.false)) (omega (arith, length-take (n - 0) es, c.if-entries-n.false)) c.if-not-entries_fit.ensures c.if-not-links_fit.ensures c.spans_of-spans.ensures c.first_state-state.ensures;
       };
     }

@@ -12,7 +12,7 @@ returns-in-Some c = record {
 
 pub returns : goal.returns
 returns c = record {
-  answer = c.in-default.ensures;
+  answer = c.in_default.ensures;
   state = search rules;
   kept = search rules;
   ready = λ right. (indexed_same _ _ _ _ _ refl refl right, indexed_plain _ _ _ _ right);

@@ -9,7 +9,7 @@ use Rattle.bounds.proofs.list.read.RowsSource.item.Goals.{else-place-via-then-pl
 pub returns-then-place-self : goal.returns-then-place-self
 returns-then-place-self c =
     let s = c.args.self.now in
-    ap Ok c.of-row.ensures ∙ read_row (row_item s.steps) s.rows.now c.args.place _ (omega arith) (omega arith)
+    ap Ok c.of_row.ensures ∙ read_row (row_item s.steps) s.rows.now c.args.place _ (omega arith) (omega arith)
 
 pub returns-else-place : goal.returns-else-place
 returns-else-place c =
