@@ -1,7 +1,7 @@
 -- What a source means: a number of steps and a list of items, under a law.
 use Rattle.std.specs.Prelude.{ℕ, ◌+◌, ◌^◌, ◌<◌, min, cond, List, length, Err, Result, nat_lt}
 use Rattle.std.specs.Option.{ok_or}
-use Rattle.std.specs.List.{AllByRecursion as All, slice_get}
+use Rattle.std.specs.List.{AllByRecursion, slice_get}
 use Rattle.bounds.specs.declared.item.Item.{Item}
 use Rattle.bounds.specs.declared.item.Item.TheVariants.{Bound, Spoiled}
 use Rattle.bounds.specs.declared.item.NoSuchPlace.{NoSuchPlace}
@@ -15,7 +15,7 @@ Below n (Spoiled f) = Unit {0}
 -- n is at most 65,535, and each bound of the list names two steps below it
 pub record Lawful (n : ℕ) (xs : List Item) : Type 0 where
   pub few : n < 2 ^ 16
-  pub each : All (Below n) xs
+  pub each : AllByRecursion (Below n) xs
 
 pub record Meaning : Type 0 where
   pub steps : ℕ

@@ -1,6 +1,6 @@
 -- The timetables of a source, and the distance from one step to another.
 use Rattle.std.specs.Prelude.{◌≡◌, ℕ, ◌<◌, ℤ, pos, ◌-ℤ◌, ◌≤ℤ◌, IfSome}
-use Rattle.std.specs.List.{AllByRecursion as All}
+use Rattle.std.specs.List.{AllByRecursion}
 use Rattle.bounds.specs.declared.bound.Bound.{Bound as BoundT}
 use Rattle.bounds.specs.declared.item.Item.{Item}
 use Rattle.bounds.specs.declared.item.Item.TheVariants.{Bound, Spoiled}
@@ -25,7 +25,7 @@ InTime n t = (i : ℕ) → i < n → (pos 0 ≤ℤ t i) × (t i ≤ℤ pos horiz
 pub record Timetable (m : Meaning) (t : ℕ → ℤ) : Type 0 where
   pub starts : t 0 ≡ pos 0
   pub in_time : InTime m.steps t
-  pub keeps : All (Keeps t) m.items
+  pub keeps : AllByRecursion (Keeps t) m.items
 
 -- a timetable exists
 abbrev pub Feasible : Meaning → Type 0

@@ -1,6 +1,6 @@
 -- What was written opens as the card of the source.
 use Rattle.std.proofs.Common.{◌≡◌, ℕ, zero, suc, ◌+◌, ◌*◌, ◌≤◌, false, List, [], ◌∷◌, length, take, Some, None, sym, refl, ap, ◌∙◌, subst, inl, arith}
-use Rattle.std.specs.List.{AllByRecursion as All, slice_get}
+use Rattle.std.specs.List.{AllByRecursion, slice_get}
 use Rattle.std.proofs.lemmas.List.{length-take-le}
 use Rattle.bits.specs.Field.{field}
 use Rattle.bits.specs.Wrote.{KeptOutside}
@@ -29,7 +29,7 @@ listed_is f i (x ∷ xs) h =
     let b = listed_is f (i + 1) xs (λ k y e. ap f (omega arith) ∙ h (suc k) y e) in
     rw (a, b)
 
-all_nth : {X : Type 0} (P : X → Type 0) (xs : List X) (i : ℕ) (x : X) → All P xs → slice_get xs i ≡ Some x → P x
+all_nth : {X : Type 0} (P : X → Type 0) (xs : List X) (i : ℕ) (x : X) → AllByRecursion P xs → slice_get xs i ≡ Some x → P x
 all_nth P [] i x a h = let z : ◌≡◌ {A = ℕ} 0 1 = cc in absurd (omega arith)
 all_nth P (y ∷ ys) zero x a h = let e : y ≡ x = cc in subst P e a.0
 all_nth P (y ∷ ys) (suc i) x a h = all_nth P ys i x a.1 h

@@ -1,7 +1,7 @@
 -- What the tests of `compile` decide.
 use Rattle.std.proofs.Common.{◌≡◌, ℕ, ◌-◌, ◌*◌, ◌≤◌, false, ltb, List, ◌++◌, drop, replicate, ℤ, Some, None, Err, Option, sym, refl, ap, ◌∙◌, subst}
 use Rattle.std.specs.Option.{option_map}
-use Rattle.std.specs.List.{AllByRecursion as All}
+use Rattle.std.specs.List.{AllByRecursion}
 use Rattle.std.proofs.lemmas.Bool.{or_from, le-ltb, cond-false}
 use Rattle.bounds.specs.declared.fault.Fault.{Fault}
 use Rattle.bounds.specs.declared.fault.Fault.TheVariants.{NoSuchStep, OutOfReach, NoEnd}
@@ -49,6 +49,6 @@ pub answered_none : (m : Meaning) (early : Option Told) → early ≡ None → (
 answered_none m early is none = let P : Option Told → Type 0 = λ o. Answered m o (Err NoTimetable) in subst P (sym is) (refl, none)
 
 -- a list within the limits is read whole
-pub says_all : (m : Meaning) → beyond_limits m ≡ false → (d : ℕ → ℕ → ℤ) → Narrowed m.steps unbounded d (λ t. All (Keeps t) (readable m.items))
-    → Narrowed m.steps unbounded d (λ t. All (Keeps t) m.items)
-says_all m limits d says = let P : List Item → Type 0 = λ xs. Narrowed m.steps unbounded d (λ t. All (Keeps t) xs) in subst P (readable_all m.items (within m limits).few) says
+pub says_all : (m : Meaning) → beyond_limits m ≡ false → (d : ℕ → ℕ → ℤ) → Narrowed m.steps unbounded d (λ t. AllByRecursion (Keeps t) (readable m.items))
+    → Narrowed m.steps unbounded d (λ t. AllByRecursion (Keeps t) m.items)
+says_all m limits d says = let P : List Item → Type 0 = λ xs. Narrowed m.steps unbounded d (λ t. AllByRecursion (Keeps t) xs) in subst P (readable_all m.items (within m limits).few) says

@@ -2,7 +2,7 @@
 use Rattle.std.proofs.Common.{◌≡◌, ℕ, ◌+◌, ◌<◌, ◌≤◌, ◌⊎◌, ◌↔◌, List, [], ◌∷◌, length, drop, ℤ, pos, ◌+ℤ◌, ◌-ℤ◌, neg_ℤ, ◌≤ℤ◌, ◌<ℤ◌, IfSome, Some, None, Option, sym, refl, ap, ◌∙◌, inl, inr, arith}
 use Rattle.std.specs.Int.{int_min}
 use Rattle.std.specs.Option.{option_map}
-use Rattle.std.specs.List.{AllByRecursion as All}
+use Rattle.std.specs.List.{AllByRecursion}
 use Rattle.std.proofs.lemmas.Int.{ints, clamps}
 use Rattle.std.proofs.lemmas.Bool.{cases_eq, cases_lt}
 use Rattle.bounds.specs.declared.bound.Bound.{Bound as BoundT}
@@ -65,7 +65,7 @@ bound_narrows n c d e b upper lower t = (
 -- one item after another: what is left to read of a list, with the table so far, demands what the whole list demands
 
 abbrev pub Left : ℕ → (ℕ → ℕ → ℤ) → List Item → (ℕ → ℕ → ℤ) → List Item → Type 0
-Left n start all d rest = (t : ℕ → ℤ) → (Fits n d t × All (Keeps t) rest) ↔ (Fits n start t × All (Keeps t) all)
+Left n start all d rest = (t : ℕ → ℤ) → (Fits n d t × AllByRecursion (Keeps t) rest) ↔ (Fits n start t × AllByRecursion (Keeps t) all)
 
 pub left_first : (n : ℕ) (start d : ℕ → ℕ → ℤ) (all rest : List Item) → ((i j : ℕ) → i < n → j < n → d i j ≡ start i j) → rest ≡ all → Left n start all d rest
 left_first n start d all rest same is t = (
@@ -75,12 +75,12 @@ left_first n start d all rest same is t = (
 
 pub left_more : (n : ℕ) (start d e : ℕ → ℕ → ℤ) (all rest more : List Item) (x : Item) → rest ≡ x ∷ more → Narrowed n d e (λ t. Keeps t x) → Left n start all d rest → Left n start all e more
 left_more n start d e all rest more x is narrows left t =
-    let whole : All (Keeps t) rest ↔ (Keeps t x × All (Keeps t) more) = rw is (λ h. h, λ h. h) in (
+    let whole : AllByRecursion (Keeps t) rest ↔ (Keeps t x × AllByRecursion (Keeps t) more) = rw is (λ h. h, λ h. h) in (
       λ both. let old = (narrows t).0 both.0 in (left t).0 (old.0, whole.1 (old.1, both.1)),
       λ both. let old = (left t).1 both in let parts = whole.0 old.1 in ((narrows t).1 (old.0, parts.0), parts.1),
     )
 
-pub left_none : (n : ℕ) (start d : ℕ → ℕ → ℤ) (all rest : List Item) → rest ≡ [] → Left n start all d rest → Narrowed n start d (λ t. All (Keeps t) all)
+pub left_none : (n : ℕ) (start d : ℕ → ℕ → ℤ) (all rest : List Item) → rest ≡ [] → Left n start all d rest → Narrowed n start d (λ t. AllByRecursion (Keeps t) all)
 left_none n start d all rest is left t = (λ fits. (left t).0 (fits, rw is tt), λ both. ((left t).1 both).0)
 
 -- the closure
@@ -163,7 +163,7 @@ unbounded_in_time n some t starts = (
 from_row : (ℕ → ℕ → ℤ) → ℕ → ℕ → ℤ
 from_row d i x = d i x -ℤ d i 0
 
-module _ (m : Meaning) (some : 0 < m.steps) (d : ℕ → ℕ → ℤ) (says : Narrowed m.steps unbounded d (λ t. All (Keeps t) m.items)) where
+module _ (m : Meaning) (some : 0 < m.steps) (d : ℕ → ℕ → ℤ) (says : Narrowed m.steps unbounded d (λ t. AllByRecursion (Keeps t) m.items)) where
   -- the table says what the bounds say
   timetable_fits : (t : ℕ → ℤ) → Timetable m t → Fits m.steps d t
   timetable_fits t table = (says t).1 ((unbounded_in_time m.steps some t table.starts).1 table.in_time, table.keeps)

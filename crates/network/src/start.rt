@@ -7,7 +7,7 @@ ghost use Rattle.bounds.specs.Spoiled.{readable};
 ghost use Rattle.bounds.specs.Timetables.{Keeps, KeepsBound};
 ghost use Rattle.network.specs.Gaps.{Capped, Narrowed};
 ghost use Rattle.network.specs.Grid.{Rough, entry_at, unbounded};
-ghost use Rattle.std.specs.List.{AllByRecursion as All};
+ghost use Rattle.std.specs.List.{AllByRecursion};
 
 use crate::grid::{fill, lower};
 use bounds::limits::HORIZON;
@@ -19,7 +19,7 @@ pub(crate) fn gather<S: Source>(source: &S, n: usize, table: &mut [i32])
     requires room { n * n ≤ length table.old }
     requires steps { (S.meaning source.now).steps ≡ n }
     ensures rough { Rough n (entry_at n table.new) }
-    ensures narrowed { Narrowed n unbounded (entry_at n table.new) (λ t. All (Keeps t) (readable (S.meaning source.now).items)) }
+    ensures narrowed { Narrowed n unbounded (entry_at n table.new) (λ t. AllByRecursion (Keeps t) (readable (S.meaning source.now).items)) }
     ensures behind { drop (n * n) table.new ≡ drop (n * n) table.old }
 {
     unbind(n, table);

@@ -1,6 +1,6 @@
 use Rattle.std.proofs.Common.{◌≡◌, ℕ, ◌-◌, ◌*◌, ◌≤◌, length, take, drop, sym, refl, ap, ◌∙◌, subst, arith, rules}
 use Rattle.std.specs.Option.{option_map}
-use Rattle.std.specs.List.{AllByRecursion as All}
+use Rattle.std.specs.List.{AllByRecursion}
 use Rattle.std.proofs.lemmas.Bool.{cond-false}
 use Rattle.bounds.specs.Spoiled.{readable}
 use Rattle.bounds.specs.Timetables.{Keeps}
@@ -27,10 +27,10 @@ early g c =
     c.first_spoiled.result c.first_spoiled.ensures
 
 -- the gathered table says what the bounds say
-says : (g : given.Over) (c : After-gather g) → let m = g.S.Source.meaning c.args.source.now in Narrowed m.steps unbounded (entry_at m.steps c.gather.new.table) (λ t. All (Keeps t) m.items)
+says : (g : given.Over) (c : After-gather g) → let m = g.S.Source.meaning c.args.source.now in Narrowed m.steps unbounded (entry_at m.steps c.gather.new.table) (λ t. AllByRecursion (Keeps t) m.items)
 says g c =
     let m = g.S.Source.meaning c.args.source.now in
-    let P : ℕ → Type 0 = λ n. Narrowed n unbounded (entry_at n c.gather.new.table) (λ t. All (Keeps t) (readable m.items)) in
+    let P : ℕ → Type 0 = λ n. Narrowed n unbounded (entry_at n c.gather.new.table) (λ t. AllByRecursion (Keeps t) (readable m.items)) in
     says_all m (sym c.if-beyond_limits.ensures) (entry_at m.steps c.gather.new.table) (subst P c.steps-n.ensures c.gather.ensures.narrowed)
 
 pub returns-in-Some : goal.returns-in-Some
