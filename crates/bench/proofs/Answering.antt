@@ -14,14 +14,14 @@ use Rattle.bounds.specs.Told.{Told, told_spoiled, beyond_limits}
 use Rattle.bounds.specs.declared.row.Row.{Row}
 use Rattle.bounds.specs.declared.scan.SpoiledItem.{SpoiledItem}
 use Rattle.network.specs.Compiled as network
-use Rattle.network.specs.Grid.{filled}
+use Rattle.network.specs.Grid.{zeroed}
 use Rattle.network.specs.Refusals.{early_refusal, told, too_short}
 use Rattle.network.specs.declared.compiler.Compiled.{Compiled}
 use Rattle.network.specs.declared.refusal.Refusal.{Refusal}
 use Rattle.network.specs.declared.refusal.Refusal.TheVariants.{Limits, Tables}
 use Rattle.network.specs.declared.tables.GroupEntry.{GroupEntry}
 use Rattle.network.specs.declared.tables.Link.{Link}
-use Rattle.network.proofs.Compiling.{filled_same, spoiled_clears}
+use Rattle.network.proofs.Compiling.{zeroed_same, spoiled_clears}
 use Rattle.bench.specs.Outcomes.{Answered, Handed, Refused, job, refusal_outcome}
 use Rattle.bench.specs.Plain.{plain_group, plain_link, plain_row}
 use Rattle.bench.specs.declared.Outcome.{Outcome}
@@ -37,7 +37,7 @@ behind n m r before after e h = subst (λ k. drop (k * k) after ≡ drop (k * k)
     drop_replicated zero x ys = refl
     drop_replicated (suc k) x ys = drop_replicated k x ys
 
-    by : (b : Bool) → drop (m * m) (cond b before (filled m (pos 0) before)) ≡ drop (m * m) before
+    by : (b : Bool) → drop (m * m) (cond b before (zeroed m before)) ≡ drop (m * m) before
     by true = refl
     by false = drop_replicated (m * m) (pos 0) (drop (m * m) before)
 
@@ -82,9 +82,9 @@ module _ (n : ℕ) (few : n < 2 ^ 16) (bounds : List PlainBound) where
 
 -- distances that were filled with zeros
 cleared : (n : ℕ) (e : Refusal) (t : Told) (distances before after : List ℤ) → told e ≡ t → network.leaves_distances t ≡ false → network.DistancesAfter n (Err e) before after → drop (n * n) before ≡ drop (n * n) distances
-    → after ≡ cond (network.leaves_distances t) distances (filled n (pos 0) distances)
+    → after ≡ cond (network.leaves_distances t) distances (zeroed n distances)
 cleared n e t distances before after is clears h same =
-    h ∙ cond-false (network.leaves_distances (told e)) _ _ (ap network.leaves_distances is ∙ clears) ∙ filled_same n n (pos 0) before distances refl same ∙ sym (cond-false (network.leaves_distances t) _ _ clears)
+    h ∙ cond-false (network.leaves_distances (told e)) _ _ (ap network.leaves_distances is ∙ clears) ∙ zeroed_same n n before distances refl same ∙ sym (cond-false (network.leaves_distances t) _ _ clears)
 
 -- tables that were written out
 pub handed : (r : Outcome) (distances : List ℤ) (groups groups' : List PlainGroup) (links links' : List PlainLink) (m : Meaning) (c : Compiled) (gs : List GroupEntry) (ls : List Link) → network.TablesOf m c distances gs ls → length gs ≡ m.steps → r ≡ record { refusal = 0; groups = c.groups; links = c.links }
@@ -113,13 +113,13 @@ module _ (r : Outcome) (distances distances' : List ℤ) (groups groups' : List 
 
   -- the answer of a compilation at which only an item can be refused early
   pub answered : (m : Meaning) (early early' : Option Told) (first : Option SpoiledItem) → early ≡ option_map told_spoiled first → early' ≡ option_map told_spoiled first → (before : List ℤ) → drop (m.steps * m.steps) before ≡ drop (m.steps * m.steps) distances
-      → (a : Result Compiled Refusal) → network.Answered m early a → Hands m before a → Answered m early' r distances distances' groups groups' links links'
+      → (a : Result Compiled Refusal) → network.Decided m early a → Hands m before a → Answered m early' r distances distances' groups groups' links links'
   answered m early early' first is is' before same a h hands =
-      let P : Option Told → Type 0 = λ o. network.Answered m o a in
+      let P : Option Told → Type 0 = λ o. network.Decided m o a in
       let Q : Option Told → Type 0 = λ o. Answered m o r distances distances' groups groups' links links' in
       subst Q (sym is') (go first a (subst P is h) hands)
     where
-      go : (o : Option SpoiledItem) (a : Result Compiled Refusal) → network.Answered m (option_map told_spoiled o) a → Hands m before a → Answered m (option_map told_spoiled o) r distances distances' groups groups' links links'
+      go : (o : Option SpoiledItem) (a : Result Compiled Refusal) → network.Decided m (option_map told_spoiled o) a → Hands m before a → Answered m (option_map told_spoiled o) r distances distances' groups groups' links links'
       go (Some item) (Ok c) h hands = absurd (let z : ◌≡◌ {A = ℕ} 0 1 = cc in omega arith)
       go None (Ok c) h hands = inl (h.1, hands)
       go (Some item) (Err e) h hands = record {

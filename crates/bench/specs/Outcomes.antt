@@ -1,11 +1,11 @@
 -- What a compilation for a caller outside answers, and what it leaves in the handed tables.
-use Rattle.std.specs.Prelude.{◌≡◌, ℕ, ◌^◌, ◌<◌, cond, ◌⊎◌, List, ◌++◌, map, length, take, drop, ℤ, pos, Some, None, Option}
+use Rattle.std.specs.Prelude.{◌≡◌, ℕ, ◌^◌, ◌<◌, cond, ◌⊎◌, List, ◌++◌, map, length, take, drop, ℤ, Some, None, Option}
 use Rattle.bounds.specs.Meaning.{Meaning}
 use Rattle.bounds.specs.RowList.{rows_meaning}
 use Rattle.bounds.specs.Timetables.{Feasible}
 use Rattle.bounds.specs.Told.{Told}
 use Rattle.network.specs.Compiled.{TablesOf, leaves_distances}
-use Rattle.network.specs.Grid.{filled}
+use Rattle.network.specs.Grid.{zeroed}
 use Rattle.network.specs.Refusals.{told}
 use Rattle.network.specs.declared.compiler.Compiled.{Compiled}
 use Rattle.network.specs.declared.refusal.Refusal.TheVariants.{NoTimetable}
@@ -28,7 +28,7 @@ refusal_outcome t = record { refusal = t.number; groups = 0; links = 0 }
 -- a refusal is answered, and the tables are left as `compile` leaves them: the n × n distances are zero after a refusal that does not leave them
 pub record Refused (n : ℕ) (t : Told) (r : Outcome) (distances distances' : List ℤ) (groups groups' : List PlainGroup) (links links' : List PlainLink) : Type 0 where
   pub outcome : r ≡ refusal_outcome t
-  pub distances_left : distances' ≡ cond (leaves_distances t) distances (filled n (pos 0) distances)
+  pub distances_left : distances' ≡ cond (leaves_distances t) distances (zeroed n distances)
   pub groups_left : groups' ≡ groups
   pub links_left : links' ≡ links
 

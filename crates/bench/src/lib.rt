@@ -1,4 +1,6 @@
 // What the benchmark calls: `compile` over handed rows, for a caller that is held to nothing.
+#![tactic(auto)]
+
 ghost use Rattle.std.specs.Prelude.{◌≡◌, ◌*◌, ◌^◌, ◌<◌, ◌≤◌, ◌++◌, map, length, drop};
 ghost use Rattle.network.specs.Refusals.{early_refusal, told};
 ghost use Rattle.bench.specs.Outcomes.{Answered, job, refusal_outcome};

@@ -1,4 +1,6 @@
 // Reads a card from standard input and prints its listing, or the line of its refusal. A refusal ends with status 1.
+#![tactic(auto)]
+
 use bounds::limits::MOST_ITEMS;
 use card::layout::{HEADER_BYTES, RECORD_BYTES};
 use listing::{Listing, list_card};

@@ -1,4 +1,6 @@
 // Reads a job as text from standard input and writes its card to standard output. A wrong text or a refusal is told on standard error, and ends with status 1.
+#![tactic(auto)]
+
 use bounds::Rows;
 use bounds::limits::MOST_ITEMS;
 use card::layout::{HEADER_BYTES, RECORD_BYTES};

@@ -1,6 +1,6 @@
 // What is printed for a card, and for any source.
 ghost use Rattle.std.specs.Prelude.{◌≡◌, IfOk};
-ghost use Rattle.listing.specs.Answer.{CardAnswer, JobAnswer};
+ghost use Rattle.listing.specs.Answer.{CardAnswer, CardDecided, JobAnswer, JobDecided};
 
 use crate::text::{listing, refusal_line};
 use bounds::Source;
@@ -43,7 +43,8 @@ pub enum Listing {
 
 /// The text for the card in these bytes: a refusal where it does not open or compile, else its listing. Fails only for want of memory.
 pub fn list_card(heap: Global, bytes: &[u8]) -> Result<Listing, AllocError>
-    ensures { IfOk result (CardAnswer bytes.now) }
+    ensures answer { IfOk result (CardAnswer bytes.now) }
+    ensures decided { IfOk result (CardDecided bytes.now) }
 {
     match Card::open(bytes) {
         Ok(card) => list_source(heap, &card),
@@ -56,7 +57,8 @@ pub fn list_card(heap: Global, bytes: &[u8]) -> Result<Listing, AllocError>
 
 /// The text for the bounds of a source: a refusal where it does not compile, else its listing. Fails only for want of memory.
 pub fn list_source<S: Source>(heap: Global, source: &S) -> Result<Listing, AllocError>
-    ensures { IfOk result (JobAnswer (S.meaning source.now)) }
+    ensures answer { IfOk result (JobAnswer (S.meaning source.now)) }
+    ensures decided { IfOk result (JobDecided (S.meaning source.now)) }
 {
     let mut distances = [0; MOST_DISTANCES];
     let mut groups = [NO_GROUP; MOST_GROUPS];

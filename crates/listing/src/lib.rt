@@ -1,4 +1,6 @@
 // The listing of a card: its groups and links, or its refusal, as text.
+#![tactic(auto)]
+
 pub mod answer;
 mod line;
 mod text;

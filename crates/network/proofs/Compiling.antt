@@ -1,5 +1,5 @@
 -- What the tests of `compile` decide.
-use Rattle.std.proofs.Common.{◌≡◌, ℕ, ◌-◌, ◌*◌, ◌≤◌, false, ltb, List, ◌++◌, drop, replicate, ℤ, Some, None, Err, Option, sym, refl, ap, ◌∙◌, subst}
+use Rattle.std.proofs.Common.{◌≡◌, ℕ, ◌-◌, ◌*◌, ◌≤◌, false, ltb, List, ◌++◌, drop, replicate, ℤ, pos, Some, None, Err, Option, sym, refl, ap, ◌∙◌, subst}
 use Rattle.std.specs.Option.{option_map}
 use Rattle.std.specs.List.{AllByRecursion}
 use Rattle.std.proofs.lemmas.Bool.{or_from, le-ltb, cond-false}
@@ -15,9 +15,9 @@ use Rattle.bounds.proofs.Reading.{readable_all}
 use Rattle.bounds.proofs.Within.{within}
 use Rattle.network.specs.declared.refusal.Refusal.{Refusal}
 use Rattle.network.specs.declared.refusal.Refusal.TheVariants.{NoTimetable}
-use Rattle.network.specs.Compiled.{Answered, leaves_distances}
+use Rattle.network.specs.Compiled.{Decided, leaves_distances}
 use Rattle.network.specs.Gaps.{Narrowed}
-use Rattle.network.specs.Grid.{unbounded, filled}
+use Rattle.network.specs.Grid.{unbounded, zeroed}
 use Rattle.network.specs.Refusals.{told, too_short, early_refusal}
 
 -- within the limits and with long tables, the first spoiled item alone decides
@@ -36,17 +36,17 @@ spoiled_clears NoSuchStep place = refl
 spoiled_clears OutOfReach place = refl
 spoiled_clears NoEnd place = refl
 
--- tables that are the same behind their entries are the same once these are filled
-pub filled_same : (n m : ℕ) (gap : ℤ) (xs ys : List ℤ) → n ≡ m → drop (n * n) xs ≡ drop (n * n) ys → filled n gap xs ≡ filled m gap ys
-filled_same n m gap xs ys e h = ap (λ zs. replicate (n * n) gap ++ zs) h ∙ ap (λ k. filled k gap ys) e
+-- tables that are the same behind their entries are the same once these are zero
+pub zeroed_same : (n m : ℕ) (xs ys : List ℤ) → n ≡ m → drop (n * n) xs ≡ drop (n * n) ys → zeroed n xs ≡ zeroed m ys
+zeroed_same n m xs ys e h = ap (λ zs. replicate (n * n) (pos 0) ++ zs) h ∙ ap (λ k. zeroed k ys) e
 
 -- an early refusal is the one given
-pub answered_early : (m : Meaning) (early : Option Told) (e : Refusal) → early ≡ Some (told e) → Answered m early (Err e)
-answered_early m early e is = let P : Option Told → Type 0 = λ o. Answered m o (Err e) in subst P (sym is) refl
+pub decided_early : (m : Meaning) (early : Option Told) (e : Refusal) → early ≡ Some (told e) → Decided m early (Err e)
+decided_early m early e is = let P : Option Told → Type 0 = λ o. Decided m o (Err e) in subst P (sym is) refl
 
 -- without one there is no timetable
-pub answered_none : (m : Meaning) (early : Option Told) → early ≡ None → (Feasible m → ⊥) → Answered m early (Err NoTimetable)
-answered_none m early is none = let P : Option Told → Type 0 = λ o. Answered m o (Err NoTimetable) in subst P (sym is) (refl, none)
+pub decided_none : (m : Meaning) (early : Option Told) → early ≡ None → (Feasible m → ⊥) → Decided m early (Err NoTimetable)
+decided_none m early is none = let P : Option Told → Type 0 = λ o. Decided m o (Err NoTimetable) in subst P (sym is) (refl, none)
 
 -- a list within the limits is read whole
 pub says_all : (m : Meaning) → beyond_limits m ≡ false → (d : ℕ → ℕ → ℤ) → Narrowed m.steps unbounded d (λ t. AllByRecursion (Keeps t) (readable m.items))

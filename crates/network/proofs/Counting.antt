@@ -1,9 +1,8 @@
 -- There are at most n × (n − 1) links: one for each ordered pair of steps.
-use Rattle.std.proofs.Common.{◌≡◌, ℕ, zero, suc, ◌+◌, ◌-◌, ◌*◌, ◌<◌, ◌≤◌, Bool, true, false, cond, eqb, ◌⊎◌, ℤ, pos, sym, refl, ap, ◌∙◌, inl, inr, mul_comm, add-mul, add-one, arith}
+use Rattle.std.proofs.Common.{◌≡◌, ℕ, zero, suc, ◌+◌, ◌-◌, ◌*◌, ◌<◌, ◌≤◌, Bool, true, false, cond, eqb, ℤ, pos, sym, refl, ap, ◌∙◌, inl, inr, add-mul, add-one, arith}
 use lib.Signed.{le_z}
 use Rattle.std.proofs.lemmas.Bool.{cases_eq, cases_lt, eq-eqb, ne_eqb, cond-true, cond-false}
-use Rattle.network.specs.declared.tables.Kind.TheVariants.{Most, Least}
-use Rattle.network.specs.Counting.{sum_below, link_count, links_from}
+use Rattle.network.specs.Counting.{sum_below, most_count, least_count, links_from}
 
 pub sum_more : (f : ℕ → ℕ) (k : ℕ) → sum_below f (k + 1) ≡ sum_below f k + f k
 sum_more f k = ap (sum_below f) (add-one k)
@@ -70,11 +69,11 @@ others_all p (suc n) l = elim (cases_eq p n) [
 module _ (d : ℕ → ℕ → ℤ) where
   -- the pair p, q gives its link as a most link from p, or as a least link from q
   backward : ℕ → ℕ → ℕ
-  backward p q = link_count Least d q p
+  backward p q = least_count d q p
 
-  one_each : (p q : ℕ) → link_count Most d p q + backward p q ≡ others p q
+  one_each : (p q : ℕ) → most_count d p q + backward p q ≡ others p q
   unfolding backward
-  one_each p q = ap (λ b. link_count Most d p q + cond b 0 (cond (le_z (pos 0) (d p q)) 0 1)) (eqb_swap q p) ∙ by_tests (eqb p q) (le_z (pos 0) (d p q))
+  one_each p q = ap (λ b. most_count d p q + cond b 0 (cond (le_z (pos 0) (d p q)) 0 1)) (eqb_swap q p) ∙ by_tests (eqb p q) (le_z (pos 0) (d p q))
     where
       by_tests : (same far : Bool) → cond same 0 (cond far 1 0) + cond same 0 (cond far 0 1) ≡ cond same 0 1
       by_tests true far = refl
@@ -86,10 +85,10 @@ module _ (d : ℕ → ℕ → ℤ) where
   links_all n =
       let all : sum_below (λ p. sum_below (others p) n) n ≡ n * (n - 1) =
       sum_same (λ p. sum_below (others p) n) (λ _. n - 1) n (λ p h. omega (arith, others_all p n h)) ∙ sum_constant (n - 1) n in
-      sum_same (links_from n d) (λ p. sum_below (link_count Most d p) n + sum_below (link_count Least d p) n) n (λ p _. sum_plus (link_count Most d p) (link_count Least d p) n)
-      ∙ sum_plus (λ p. sum_below (link_count Most d p) n) (λ p. sum_below (link_count Least d p) n) n
-      ∙ ap (λ x. sum_below (λ p. sum_below (link_count Most d p) n) n + x) (sum_swap (link_count Least d) n n)
-      ∙ sym (sum_plus (λ p. sum_below (link_count Most d p) n) (λ p. sum_below (backward p) n) n)
-      ∙ sum_same (λ p. sum_below (link_count Most d p) n + sum_below (backward p) n) (λ p. sum_below (others p) n) n
-      (λ p _. sym (sum_plus (link_count Most d p) (backward p) n) ∙ sum_same (λ q. link_count Most d p q + backward p q) (others p) n (λ q _. one_each p q))
+      sum_same (links_from n d) (λ p. sum_below (most_count d p) n + sum_below (least_count d p) n) n (λ p _. sum_plus (most_count d p) (least_count d p) n)
+      ∙ sum_plus (λ p. sum_below (most_count d p) n) (λ p. sum_below (least_count d p) n) n
+      ∙ ap (λ x. sum_below (λ p. sum_below (most_count d p) n) n + x) (sum_swap (least_count d) n n)
+      ∙ sym (sum_plus (λ p. sum_below (most_count d p) n) (λ p. sum_below (backward p) n) n)
+      ∙ sum_same (λ p. sum_below (most_count d p) n + sum_below (backward p) n) (λ p. sum_below (others p) n) n
+      (λ p _. sym (sum_plus (most_count d p) (backward p) n) ∙ sum_same (λ q. most_count d p q + backward p q) (others p) n (λ q _. one_each p q))
       ∙ all

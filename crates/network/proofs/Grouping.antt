@@ -2,10 +2,10 @@
 use Rattle.std.proofs.Common.{◌≡◌, ℕ, ◌+◌, ◌<◌, ◌≤◌, cond, eqb, ◌↔◌, List, length, set, ℤ, pos, ◌≤ℤ◌, ◌<ℤ◌, sym, refl, ap, ◌∙◌, inl, inr, arith}
 use Rattle.std.proofs.lemmas.List.{get_or-set_same, get_or-set_other}
 use Rattle.std.proofs.lemmas.Int.{ints}
-use Rattle.std.proofs.lemmas.Bool.{cases_eq, eq-eqb, ne_eqb, cond-true, cond-false}
+use Rattle.std.proofs.lemmas.Bool.{cases_eq}
 use Rattle.network.specs.declared.tables.GroupEntry.{GroupEntry}
 use Rattle.network.specs.Gaps.{Closed}
-use Rattle.network.specs.Groups.{Rigid, Earliest, Leads, group_at, is_leader, Grouped, leaders, GroupTable}
+use Rattle.network.specs.Groups.{Rigid, Leads, group_at, is_leader, Grouped, leaders, GroupTable}
 use Rattle.network.proofs.Counting.{sum_more, sum_same, sum_tests}
 
 -- of the members from k on, the leader is the lowest-numbered of the earliest, unless none is as early as the step itself

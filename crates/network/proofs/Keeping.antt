@@ -1,59 +1,44 @@
 -- Which links are kept between two leaders, and in which part of the table they stand.
-use Rattle.std.proofs.Common.{◌≡◌, ℕ, ◌+◌, ◌<◌, ◌≤◌, true, false, cond, eqb, ◌⊎◌, ◌↔◌, List, ℤ, pos, nat_abs, ◌≤ℤ◌, Some, None, Ok, Err, Option, Result, sym, refl, ap, ◌∙◌, subst, inl, inr, arith, MatchOption, MatchResult}
-use lib.Signed.{le_z}
-use Rattle.std.proofs.lemmas.Int.{ints}
-use Rattle.std.proofs.lemmas.Bool.{cases_eq, ne_eqb, both_ways, cond-true, cond-false}
+use Rattle.std.proofs.Common.{◌≡◌, ℕ, ◌+◌, ◌<◌, ◌≤◌, true, false, ◌⊎◌, ◌↔◌, List, ℤ, Some, None, Ok, Err, Option, Result, sym, refl, ap, ◌∙◌, subst, inl, inr, arith, MatchOption, MatchResult}
+use Rattle.std.proofs.lemmas.Bool.{cases_eq, both_ways}
 use Rattle.network.specs.declared.tables.GroupEntry.{GroupEntry}
 use Rattle.network.specs.declared.tables.Kind.{Kind}
 use Rattle.network.specs.declared.tables.Kind.TheVariants.{Most, Least}
 use Rattle.network.specs.declared.tables.Link.{Link}
 use Rattle.queue.specs.declared.lent.Queue.{Queue}
 use Rattle.queue.specs.Held.{held}
-use Rattle.queue.proofs.Growing.{grown_as, grown_from_none}
-use Rattle.network.specs.Counting.{link_count}
-use Rattle.queue.specs.Growing.{Grown}
+use Rattle.queue.proofs.Growing.{gained_as, gained_from_none}
+use Rattle.queue.specs.Growing.{Gained}
 use Rattle.network.specs.Order.{link_before}
 use Rattle.network.specs.Groups.{is_leader}
-use Rattle.network.specs.Links.{Dominated, Suits, gap_from, gap_to, KeptAs, Kept, KeptBetween, KeptFrom, LinkTable, joining, links_in}
-
--- a link that suits its gap is counted
-pub suits_counted : (kind : Kind) (d : ℕ → ℕ → ℤ) (p q : ℕ) → (q ≡ p → ⊥) → Suits kind q (d (gap_from kind p q) (gap_to kind p q)) → 1 ≤ link_count kind d p q
-suits_counted kind d p q apart suits = by_kind kind suits
-  where
-    other : eqb p q ≡ false
-    other = ne_eqb p q (λ e. apart (sym e))
-
-    by_kind : (k : Kind) → Suits k q (d (gap_from k p q) (gap_to k p q)) → 1 ≤ link_count k d p q
-    by_kind Most fits =
-        let at : le_z (pos 0) (d p q) ≡ true = sym (omega (arith, ints, fits.1)) in
-        omega (arith, cond-false {A = ℕ} (eqb p q) 0 (cond (le_z (pos 0) (d p q)) 1 0) other, cond-true {A = ℕ} (le_z (pos 0) (d p q)) 1 0 at)
-    by_kind Least fits =
-        let at : le_z (pos 0) (d q p) ≡ false = sym (omega (arith, ints, fits)) in
-        omega (arith, cond-false {A = ℕ} (eqb p q) 0 (cond (le_z (pos 0) (d q p)) 0 1) other, cond-false {A = ℕ} (le_z (pos 0) (d q p)) 0 1 at)
-
-pub gap_below : (n : ℕ) (kind : Kind) (p q : ℕ) → p < n → q < n → (gap_from kind p q < n) × (gap_to kind p q < n)
-gap_below n Most p q p_in q_in = (p_in, q_in)
-gap_below n Least p q p_in q_in = (q_in, p_in)
+use Rattle.network.specs.Links.{MostKept, LeastKept, most_link, least_link, KeptAs, Kept, KeptBetween, KeptFrom, LinkTable, held as links_in}
 
 which_kind : (k : Kind) → (k ≡ Most) ⊎ (k ≡ Least)
 which_kind Most = inl refl
 which_kind Least = inr refl
 
 module _ (n : ℕ) (d : ℕ → ℕ → ℤ) (gs : List GroupEntry) (p q : ℕ) where
-  -- the gap of a kind, as it was read
-  pub kept_by_gap : (kind : Kind) (from to : ℕ) (gap : ℤ) (seconds : ℕ) → from ≡ gap_from kind p q → to ≡ gap_to kind p q → gap ≡ d from to
-      → Suits kind q gap → (Dominated n d gs from to → ⊥) → seconds ≡ nat_abs gap → KeptAs n d gs kind p q seconds
-  kept_by_gap kind from to gap seconds is-from is-to read suits needed size =
-      let whole : gap ≡ d (gap_from kind p q) (gap_to kind p q) = read ∙ ap (λ a. d a to) is-from ∙ ap (d (gap_from kind p q)) is-to in
-      record {
-        suits = subst (Suits kind q) whole suits;
-        needed = (let P : ℕ → ℕ → Type 0 = λ a b. Dominated n d gs a b → ⊥ in subst (P (gap_from kind p q)) is-to (subst (λ (a : ℕ). P a to) is-from needed));
-        size = size ∙ ap nat_abs whole;
-      }
+  -- the link from p to q
+  abbrev joining : Kind → ℕ → Link
+  joining kind seconds = record { trigger = p; target = q; kind = kind; seconds = seconds }
+
+  -- a kept link has the seconds of its gap
+  same_seconds : (kind : Kind) (j k : ℕ) → KeptAs n d gs kind p q j → KeptAs n d gs kind p q k → j ≡ k
+  same_seconds Most j k one two = one.1 ∙ sym two.1
+  same_seconds Least j k one two = one.1 ∙ sym two.1
 
   -- the answer for one kind: the link that is kept, or that none is
   abbrev pub KeptOf : Kind → Option Link → Type 0
-  KeptOf kind o = MatchOption o ((seconds : ℕ) → KeptAs n d gs kind p q seconds → ⊥) (λ x. (x ≡ joining p q kind x.seconds) × KeptAs n d gs kind p q x.seconds)
+  KeptOf kind o = MatchOption o ((seconds : ℕ) → KeptAs n d gs kind p q seconds → ⊥) (λ x. (x ≡ joining kind x.seconds) × KeptAs n d gs kind p q x.seconds)
+
+  -- the answer for the most link, and for the least link
+  pub most_of : (o : Option Link) → MatchOption o (MostKept n d gs p q → ⊥) (λ x. MostKept n d gs p q × (x ≡ most_link d p q)) → KeptOf Most o
+  most_of None none = λ seconds k. none k.0
+  most_of (Some x) some = let size = ap (λ z. z.seconds) some.1 in (some.1 ∙ ap (joining Most) (sym size), (some.0, size))
+
+  pub least_of : (o : Option Link) → MatchOption o (LeastKept n d gs p q → ⊥) (λ x. LeastKept n d gs p q × (x ≡ least_link d p q)) → KeptOf Least o
+  least_of None none = λ seconds k. none k.0
+  least_of (Some x) some = let size = ap (λ z. z.seconds) some.1 in (some.1 ∙ ap (joining Least) (sym size), (some.0, size))
 
   -- what it says of a link
   pub record IsKept (kind : Kind) (x : Link) : Type 0 where
@@ -66,7 +51,7 @@ module _ (n : ℕ) (d : ℕ → ℕ → ℤ) (gs : List GroupEntry) (p q : ℕ) 
   found_kept kind None of x e = let z : ◌≡◌ {A = ℕ} 0 1 = cc in absurd (omega arith)
   found_kept kind (Some y) of x e =
       let same : y ≡ x = cc in
-      let P : Link → Type 0 = λ z. (z ≡ joining p q kind z.seconds) × KeptAs n d gs kind p q z.seconds in
+      let P : Link → Type 0 = λ z. (z ≡ joining kind z.seconds) × KeptAs n d gs kind p q z.seconds in
       let moved = subst P same of in
       record { from = ap (λ z. z.trigger) moved.0; to = ap (λ z. z.target) moved.0; as_kind = ap (λ z. z.kind) moved.0; kept = moved.1 }
 
@@ -76,8 +61,8 @@ module _ (n : ℕ) (d : ℕ → ℕ → ℤ) (gs : List GroupEntry) (p q : ℕ) 
       let from = is.from in
       let to = is.to in
       let as_kind = is.as_kind in
-      let seconds : y.seconds ≡ x.seconds = of.1.size ∙ sym is.kept.size in
-      let whole : joining p q kind y.seconds ≡ x = λ i. record { trigger = sym from i; target = sym to i; kind = sym as_kind i; seconds = seconds i } in
+      let seconds : y.seconds ≡ x.seconds = same_seconds kind y.seconds x.seconds of.1 is.kept in
+      let whole : joining kind y.seconds ≡ x = λ i. record { trigger = sym from i; target = sym to i; kind = sym as_kind i; seconds = seconds i } in
       ap Some (of.0 ∙ whole)
 
   -- a kept link from p to q has one of the two kinds
@@ -127,12 +112,12 @@ module _ (n : ℕ) (d : ℕ → ℕ → ℤ) (gs : List GroupEntry) (p q : ℕ) 
       let z : ◌≡◌ {A = ℕ} 0 1 = cc in omega arith
 
 -- a push of the link that there is
-pub grown_by_option : {A B : Type 0} (p q : Queue Link) (link : Option Link) (x : Link) (r : Result A B) → link ≡ Some x
-    → MatchResult r (λ _. Grown link_before 1 (λ y. y ≡ x) p q) (λ _. ⊥) → MatchResult r (λ _. Grown link_before (links_in link) (λ y. link ≡ Some y) p q) (λ _. ⊥)
-grown_by_option p q link x (Ok u) is grown =
-    let P : Option Link → Type 0 = λ o. Grown link_before (links_in o) (λ y. o ≡ Some y) p q in
-    subst P (sym is) (grown_as link_before 1 (λ y. y ≡ x) (λ y. Some x ≡ Some y) p q (λ y. (λ e. (let back : y ≡ x = cc in back), λ e. ap Some (sym e))) grown)
-grown_by_option p q link x (Err e) is none = none
+pub gained_by_option : {A B : Type 0} (p q : Queue Link) (link : Option Link) (x : Link) (r : Result A B) → link ≡ Some x
+    → MatchResult r (λ _. Gained link_before 1 (λ y. y ≡ x) p q) (λ _. ⊥) → MatchResult r (λ _. Gained link_before (links_in link) (λ y. link ≡ Some y) p q) (λ _. ⊥)
+gained_by_option p q link x (Ok u) is gained =
+    let P : Option Link → Type 0 = λ o. Gained link_before (links_in o) (λ y. o ≡ Some y) p q in
+    subst P (sym is) (gained_as link_before 1 (λ y. y ≡ x) (λ y. Some x ≡ Some y) p q (λ y. (λ e. (let back : y ≡ x = cc in back), λ e. ap Some (sym e))) gained)
+gained_by_option p q link x (Err e) is none = none
 
 -- the links of a part of the table, step by step
 module _ (n : ℕ) (d : ℕ → ℕ → ℤ) (gs : List GroupEntry) where
@@ -170,9 +155,9 @@ module _ (n : ℕ) (d : ℕ → ℕ → ℤ) (gs : List GroupEntry) where
   before_skipped k e x f = both_ways (is_leader gs k) e (sym (ap (is_leader gs) f.1) ∙ f.0.from_leader)
 
   -- a queue that was empty, and has the kept links of every trigger, holds the table
-  pub table_held : (j k : ℕ) (p q : Queue Link) → n ≤ k → p.len ≡ 0 → Grown link_before j (KeptBefore k) p q → LinkTable n d gs (held q)
-  table_held j k p q all empty grown =
-      let (ascending, holds) = grown_from_none link_before j (KeptBefore k) p q empty grown in
+  pub table_held : (j k : ℕ) (p q : Queue Link) → n ≤ k → p.len ≡ 0 → Gained link_before j (KeptBefore k) p q → LinkTable n d gs (held q)
+  table_held j k p q all empty gained =
+      let (ascending, holds) = gained_from_none link_before j (KeptBefore k) p q empty gained in
       record {
         ascending = ascending;
         exact = λ x. (λ m. ((holds x).0 m).0, λ kept. (holds x).1 (kept, omega (arith, kept.from_step)));

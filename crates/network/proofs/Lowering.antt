@@ -1,10 +1,10 @@
 -- A row that is lowered column by column, and what a stage of the closure keeps.
-use Rattle.std.proofs.Common.{◌≡◌, ℕ, ◌+◌, ◌*◌, ◌<◌, ◌≤◌, Bool, true, false, ◌⊎◌, List, length, set, ℤ, pos, ◌+ℤ◌, neg_ℤ, ◌≤ℤ◌, MatchBool, sym, refl, ap, ◌∙◌, inl, inr, arith}
+use Rattle.std.proofs.Common.{◌≡◌, ℕ, ◌+◌, ◌*◌, ◌<◌, ◌≤◌, Bool, true, false, List, length, set, ℤ, pos, ◌+ℤ◌, neg_ℤ, ◌≤ℤ◌, MatchBool, refl, ap, ◌∙◌, inl, inr, arith}
 use Rattle.std.specs.Int.{int_min}
 use Rattle.std.proofs.lemmas.Int.{ints, clamps, by_lt_z}
 use Rattle.std.proofs.lemmas.Bool.{cases_eq}
 use Rattle.bounds.specs.Limits.{horizon}
-use Rattle.network.specs.Grid.{entry_at, Lowered, RowLowered, Relaxed, Rough, Settled}
+use Rattle.network.specs.Grid.{entry_at, Lowered, RowLowered, Rough}
 use Rattle.network.specs.Lines.{Least, Near, Possible}
 use Rattle.network.proofs.Places.{entry_set_same, entry_set_other}
 
@@ -86,6 +86,11 @@ possible_same n v w k k_in same fine = record {
 
 pub near_line : (n : ℕ) (v w : ℕ → ℤ) (k : ℕ) → ((b : ℕ) → b < n → v b ≡ w b) → ((b : ℕ) → b < n → w b ≤ℤ pos horizon) → Possible n v k → Near n v
 near_line n v w k same high fine b q = (fine.low b q, omega (arith, ints, same b q, high b q))
+
+-- what a test says where it holds, and nothing where it does not
+pub when_left : (b : Bool) (P Q : Type 0) → MatchBool b P Q → MatchBool b P (Unit {0})
+when_left true P Q p = p
+when_left false P Q q = tt
 
 -- what a test says, from what another says
 pub when_map : (b : Bool) {P Q P' Q' : Type 0} → (P → P') → (Q → Q') → MatchBool b P Q → MatchBool b P' Q'

@@ -1,5 +1,5 @@
 -- Which times fit a table: what the first table, a bound, a stage of the closure and a closed table say of them.
-use Rattle.std.proofs.Common.{◌≡◌, ℕ, ◌+◌, ◌<◌, ◌≤◌, ◌⊎◌, ◌↔◌, List, [], ◌∷◌, length, drop, ℤ, pos, ◌+ℤ◌, ◌-ℤ◌, neg_ℤ, ◌≤ℤ◌, ◌<ℤ◌, IfSome, Some, None, Option, sym, refl, ap, ◌∙◌, inl, inr, arith}
+use Rattle.std.proofs.Common.{◌≡◌, ℕ, ◌+◌, ◌<◌, ◌≤◌, ◌⊎◌, ◌↔◌, List, [], ◌∷◌, ℤ, pos, ◌+ℤ◌, ◌-ℤ◌, neg_ℤ, ◌≤ℤ◌, IfSome, Some, None, Option, ap, inl, inr, arith}
 use Rattle.std.specs.Int.{int_min}
 use Rattle.std.specs.Option.{option_map}
 use Rattle.std.specs.List.{AllByRecursion}
@@ -7,11 +7,9 @@ use Rattle.std.proofs.lemmas.Int.{ints, clamps}
 use Rattle.std.proofs.lemmas.Bool.{cases_eq, cases_lt}
 use Rattle.bounds.specs.declared.bound.Bound.{Bound as BoundT}
 use Rattle.bounds.specs.declared.item.Item.{Item}
-use Rattle.bounds.specs.declared.item.Item.TheVariants.{Bound}
-use Rattle.bounds.specs.Limits.{horizon}
 use Rattle.bounds.specs.Meaning.{Meaning}
-use Rattle.bounds.specs.Timetables.{Keeps, KeepsBound, InTime, Timetable, Feasible, Distance, Distances, OneDistance}
-use Rattle.network.specs.Gaps.{Fits, Capped, Narrowed, ClosedBelow, Closed, Closes, Hopeless}
+use Rattle.bounds.specs.Timetables.{Keeps, KeepsBound, InTime, Timetable, Feasible, Distances, OneDistance}
+use Rattle.network.specs.Gaps.{Fits, Capped, Narrowed, ClosedBelow, Closes, Hopeless}
 use Rattle.network.specs.Grid.{Lowered, Relaxed, Rough, Settled, unbounded}
 use Rattle.network.specs.Lines.{Refuted}
 use Rattle.network.proofs.Starting.{unbounded_cases, unbounded_start, unbounded_range}

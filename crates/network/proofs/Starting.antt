@@ -1,12 +1,11 @@
 -- The table that every compilation begins with.
-use Rattle.std.proofs.Common.{◌≡◌, ℕ, zero, suc, ◌+◌, ◌*◌, ◌<◌, ◌≤◌, eqb, ◌⊎◌, List, ◌++◌, get_or, drop, replicate, ℤ, pos, ◌≤ℤ◌, sym, refl, ap, ◌∙◌, inl, inr, arith}
-use lib.ListN.{length-replicate}
-use Rattle.std.proofs.lemmas.Nat.{mul-add-lt}
-use Rattle.std.proofs.lemmas.List.{drop_at}
-use Rattle.std.proofs.lemmas.Int.{ints, clamps}
+use Rattle.std.proofs.Common.{◌≡◌, ℕ, ◌+◌, ◌*◌, ◌/◌, ◌%◌, ◌<◌, eqb, ◌⊎◌, List, length, get_or, set, ℤ, pos, ◌≤ℤ◌, refl, ◌∙◌, inl, inr, arith}
+use Rattle.std.proofs.lemmas.Nat.{mul-add-lt, div-mul-add, mod-mul-add}
+use Rattle.std.proofs.lemmas.List.{get_or-set_same, get_or-set_other}
+use Rattle.std.proofs.lemmas.Int.{ints}
 use Rattle.std.proofs.lemmas.Bool.{cases_eq, eq-eqb, ne_eqb, or_left, or_right, or_from, cond-true, cond-false}
 use Rattle.bounds.specs.Limits.{horizon}
-use Rattle.network.specs.Grid.{entry_at, filled, unbounded, Lowered, Rough}
+use Rattle.network.specs.Grid.{entry_at, unbounded, Rough}
 
 unbounded_far : (i j : ℕ) → (i ≡ j → ⊥) → (j ≡ 0 → ⊥) → unbounded i j ≡ pos horizon
 unbounded_far i j p q = cond-false _ _ _ (or_from (eqb i j) (eqb j 0) (ne_eqb i j p) (ne_eqb j 0 q))
@@ -34,68 +33,24 @@ unbounded_range i j = elim (unbounded_cases i j) [
   | inr (inr h) ↦ (omega (arith, ints, h), omega (arith, ints, h))
 ]
 
--- the rows below i have their first numbers, the others the horizon
-pub record Begun (n : ℕ) (d : ℕ → ℕ → ℤ) (i : ℕ) : Type 0 where
-  pub done : (a b : ℕ) → a < i → a < n → b < n → d a b ≡ unbounded a b
-  pub todo : (a b : ℕ) → i ≤ a → a < n → b < n → d a b ≡ pos horizon
+-- every place below p has its first number
+abbrev pub Begun : ℕ → List ℤ → ℕ → Type 0
+Begun n xs p = (q : ℕ) → q < p → get_or xs q (pos 0) ≡ unbounded (q / n) (q % n)
 
--- a table that is filled with one number
-filled_entry : (n : ℕ) (gap : ℤ) (xs : List ℤ) (i j : ℕ) → i < n → j < n → entry_at n (filled n gap xs) i j ≡ gap
-unfolding entry_at
-filled_entry n gap xs i j p q = getD_filled (n * n) gap (drop (n * n) xs) (i * n + j) (pos 0) (mul-add-lt i n j n p q)
-  where
-    getD_filled : (m : ℕ) (v : ℤ) (ys : List ℤ) (k : ℕ) (e : ℤ) → k < m → get_or (replicate m v ++ ys) k e ≡ v
-    getD_filled zero v ys k e l = absurd (omega arith)
-    getD_filled (suc m) v ys zero e l = refl
-    getD_filled (suc m) v ys (suc k) e l = getD_filled m v ys k e (omega arith)
+pub begun_more : (n : ℕ) (xs : List ℤ) (p : ℕ) (v : ℤ) → p < length xs → v ≡ unbounded (p / n) (p % n) → Begun n xs p → Begun n (set xs p v) (p + 1)
+begun_more n xs p v p_in is begun q l = elim (cases_eq q p) [
+  | inl h ↦ rw h (get_or-set_same xs p v (pos 0) p_in ∙ is)
+  | inr h ↦ get_or-set_other xs p q v (pos 0) h ∙ begun q (omega arith)
+]
 
-pub behind_filled : (n : ℕ) (gap : ℤ) (xs : List ℤ) → drop (n * n) (filled n gap xs) ≡ drop (n * n) xs
-behind_filled n gap xs = drop_at (replicate (n * n) gap) (drop (n * n) xs) (n * n) (length-replicate (n * n) gap)
+module _ (n : ℕ) (xs : List ℤ) (begun : Begun n xs (n * n)) where
+  pub entry_unbounded : (i j : ℕ) → i < n → j < n → entry_at n xs i j ≡ unbounded i j
+  unfolding entry_at
+  entry_unbounded i j p q = begun (i * n + j) (mul-add-lt i n j n p q) ∙ (rw (div-mul-add i n j q, mod-mul-add i n j q))
 
-pub begun_first : (n : ℕ) (xs ys : List ℤ) → ys ≡ filled n (pos horizon) xs → Begun n (entry_at n ys) 0
-begun_first n xs ys is = record {
-  done = λ a b l. absurd (omega arith);
-  todo = λ a b l p q. ap (λ zs. entry_at n zs a b) is ∙ filled_entry n (pos horizon) xs a b p q;
-}
-
--- one row more: its first entry and the one on the diagonal are lowered to 0
-pub begun_more : (n i : ℕ) (c d e : ℕ → ℕ → ℤ) → i < n → Begun n c i → Lowered n c d i 0 (pos 0) → Lowered n d e i i (pos 0) → Begun n e (i + 1)
-begun_more n i c d e i-in far first second = record {
-  done = λ a b l p q. elim (cases_eq a i) [
-    | inl h ↦ rw h (row b q)
-    | inr h ↦ other a b p q h ∙ far.done a b (omega arith) p q
-  ];
-  todo = λ a b l p q. other a b p q (λ h. omega (arith, h)) ∙ far.todo a b (omega arith) p q;
-}
-  where
-    other : (a b : ℕ) → a < n → b < n → (a ≡ i → ⊥) → e a b ≡ c a b
-    other a b p q ne = second.rest a b p q (λ z. ne z.0) ∙ first.rest a b p q (λ z. ne z.0)
-
-    start : c i 0 ≡ pos horizon
-    start = far.todo i 0 (omega arith) i-in (omega arith)
-
-    diagonal_before : pos 0 ≤ℤ d i i
-    diagonal_before = elim (cases_eq i 0) [
-      | inl z ↦ omega (arith, ints, clamps, ap (d i) z, first.here, start)
-      | inr z ↦ omega (arith, ints, first.rest i i i-in i-in (λ w. z w.1), far.todo i i (omega arith) i-in i-in)
-    ]
-
-    row : (b : ℕ) → b < n → e i b ≡ unbounded i b
-    row b q = elim (cases_eq b i) [
-      | inl h ↦ omega (arith, ints, clamps, ap (e i) h, second.here, diagonal_before, ap (unbounded i) h, unbounded_same i)
-      | inr h ↦ elim (cases_eq b 0) [
-        | inl z ↦ omega (arith, ints, clamps, ap (e i) z, second.rest i 0 i-in (omega arith) (λ w. h (z ∙ w.1)), first.here, start, ap (unbounded i) z, unbounded_start i)
-        | inr z ↦ second.rest i b i-in q (λ w. h w.1) ∙ first.rest i b i-in q (λ w. z w.1) ∙ far.todo i b (omega arith) i-in q ∙ sym (unbounded_far i b (λ w. h (sym w)) z)
-      ]
-    ]
-
-module _ (n : ℕ) (d : ℕ → ℕ → ℤ) (i : ℕ) (all : n ≤ i) (begun : Begun n d i) where
-  pub begun_entry : (a b : ℕ) → a < n → b < n → d a b ≡ unbounded a b
-  begun_entry a b p q = begun.done a b (omega arith) p q
-
-  pub begun_rough : Rough n d
+  pub begun_rough : Rough n (entry_at n xs)
   begun_rough = record {
-    low = λ a b p q. omega (arith, ints, begun_entry a b p q, (unbounded_range a b).0);
-    high = λ a b p q. omega (arith, ints, begun_entry a b p q, (unbounded_range a b).1);
-    diagonal = λ a p. omega (arith, ints, begun_entry a a p p, unbounded_same a);
+    low = λ i j p q. omega (arith, ints, entry_unbounded i j p q, (unbounded_range i j).0);
+    high = λ i j p q. omega (arith, ints, entry_unbounded i j p q, (unbounded_range i j).1);
+    diagonal = λ i p. omega (arith, ints, entry_unbounded i i p p, unbounded_same i);
   }

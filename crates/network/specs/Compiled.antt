@@ -1,5 +1,6 @@
 -- What `compile` answers, and what it leaves in the three tables.
-use Rattle.std.specs.Prelude.{◌≡◌, ℕ, ◌*◌, ◌≤◌, Bool, cond, ◌||◌, List, length, take, drop, ℤ, pos, Some, None, Ok, Err, Option, Result, ◌==◌}
+use Rattle.std.specs.Prelude.{◌≡◌, ℕ, ◌-◌, ◌*◌, ◌≤◌, Bool, cond, ◌||◌, List, length, take, drop, ℤ, Some, None, Ok, Err, Option, Result, ◌==◌}
+use Rattle.std.specs.Option.{unwrap_or}
 use Rattle.bounds.specs.Meaning.{Meaning}
 use Rattle.bounds.specs.Timetables.{Feasible, Distances}
 use Rattle.bounds.specs.Told.{Told}
@@ -8,16 +9,21 @@ use Rattle.network.specs.declared.refusal.Refusal.{Refusal}
 use Rattle.network.specs.declared.refusal.Refusal.TheVariants.{NoTimetable}
 use Rattle.network.specs.declared.tables.GroupEntry.{GroupEntry}
 use Rattle.network.specs.declared.tables.Link.{Link}
-use Rattle.network.specs.Grid.{entry_at, filled}
+use Rattle.network.specs.Grid.{entry_at, zeroed}
 use Rattle.network.specs.Groups.{GroupTable}
 use Rattle.network.specs.Links.{LinkTable}
 use Rattle.network.specs.Refusals.{told}
 
--- an early refusal is the one given; without one the source passes exactly when it has a timetable, and is refused with 9 exactly when it has none
-abbrev pub Answered : Meaning → Option Told → Result Compiled Refusal → Type 0
-Answered m early (Ok c) = (early ≡ None) × Feasible m
-Answered m None (Err e) = (told e ≡ told NoTimetable) × (Feasible m → ⊥)
-Answered m (Some early) (Err e) = told e ≡ early
+-- an early refusal is the one given; without one there are two numbers within their bounds, or there is no timetable
+abbrev pub Answered : ℕ → Option Told → Result Compiled Refusal → Type 0
+Answered n early (Ok c) = (early ≡ None) × (c.groups ≤ n) × (c.links ≤ n * (n - 1))
+Answered n early (Err e) = told e ≡ unwrap_or early (told NoTimetable)
+
+-- without an early refusal the source passes exactly when it has a timetable, and is refused with 9 exactly when it has none
+abbrev pub Decided : Meaning → Option Told → Result Compiled Refusal → Type 0
+Decided m early (Ok c) = (early ≡ None) × Feasible m
+Decided m None (Err e) = (told e ≡ told NoTimetable) × (Feasible m → ⊥)
+Decided m (Some early) (Err e) = told e ≡ early
 
 -- the tables of a source: its distances, the group of each step, and the kept links at the front
 pub record TablesOf (m : Meaning) (c : Compiled) (distances : List ℤ) (groups : List GroupEntry) (links : List Link) : Type 0 where
@@ -38,7 +44,7 @@ leaves_distances t = t.number == 7 || t.number == 8
 -- the distances: behind the first n × n entries as they were; those are zero after a refusal that does not leave them
 abbrev pub DistancesAfter : ℕ → Result Compiled Refusal → List ℤ → List ℤ → Type 0
 DistancesAfter n (Ok c) before after = drop (n * n) after ≡ drop (n * n) before
-DistancesAfter n (Err e) before after = after ≡ cond (leaves_distances (told e)) before (filled n (pos 0) before)
+DistancesAfter n (Err e) before after = after ≡ cond (leaves_distances (told e)) before (zeroed n before)
 
 -- the groups: behind the first n entries as they were, and all of them after a refusal
 abbrev pub GroupsAfter : ℕ → Result Compiled Refusal → List GroupEntry → List GroupEntry → Type 0

@@ -7,9 +7,9 @@ use Rattle.bounds.specs.Limits.{horizon}
 unfoldable pub entry_at : ℕ → List ℤ → ℕ → ℕ → ℤ
 entry_at n xs i j = slice_index_or xs (i * n + j) (pos 0)
 
--- the table with one number in its n × n entries, and what stands behind them
-abbrev pub filled : ℕ → ℤ → List ℤ → List ℤ
-filled n gap xs = replicate (n * n) gap ++ drop (n * n) xs
+-- the table with its n × n entries zero, and what stands behind them
+abbrev pub zeroed : ℕ → List ℤ → List ℤ
+zeroed n xs = replicate (n * n) (pos 0) ++ drop (n * n) xs
 
 -- before any bound: a step is no time after itself, step 0 is the earliest, and no gap passes the horizon
 abbrev pub unbounded : ℕ → ℕ → ℤ

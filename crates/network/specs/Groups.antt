@@ -22,9 +22,9 @@ pub record Leads (n : ℕ) (d : ℕ → ℕ → ℤ) (i x : ℕ) : Type 0 where
 abbrev pub group_at : List GroupEntry → ℕ → GroupEntry
 group_at gs i = slice_index_or gs i (record { leader = 0; offset = 0 })
 
--- an entry of the table says that the step leads its own group
+-- a step is the leader of its own group
 abbrev pub is_leader : List GroupEntry → ℕ → Bool
-is_leader gs i = (group_at gs i).leader == i
+is_leader gs i = (slice_index_or gs i (record { leader = 0; offset = 0 })).leader == i
 
 -- the entry of step i has the leader of its group, and the seconds from the leader to the step
 pub record Grouped (n : ℕ) (d : ℕ → ℕ → ℤ) (gs : List GroupEntry) (i : ℕ) : Type 0 where

@@ -5,6 +5,7 @@ pub mod Order
 pub mod Counting
 pub mod Groups
 pub mod Links
+pub mod Filling
 pub mod Refusals
 pub mod Compiled
 pub mod Ordering

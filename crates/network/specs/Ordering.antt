@@ -1,5 +1,5 @@
 -- The orders of links and of due entries are total.
-use Rattle.std.specs.Prelude.{◌≡◌, ℕ, refl}
+use Rattle.std.specs.Prelude.{◌≡◌, refl}
 use Rattle.std.proofs.Common.{arith}
 use Rattle.queue.specs.Order.{Total}
 use Rattle.queue.proofs.Keys.{total_by_keys}

@@ -17,6 +17,7 @@ pub(crate) fn close(n: usize, table: &mut [i32]) -> bool
     requires small { n ≤ most_steps }
     requires room { n * n ≤ length table.old }
     requires rough { Rough n (entry_at n table.old) }
+    ensures settled { MatchBool result (Settled n (entry_at n table.new)) (Unit {0}) }
     ensures closed { MatchBool result (Closes n (entry_at n table.old) (entry_at n table.new)) (Hopeless n (entry_at n table.old)) }
     ensures behind { drop (n * n) table.new ≡ drop (n * n) table.old }
 {

@@ -1,11 +1,11 @@
 // Compilation: from any source of bounds to the three tables.
 ghost use Rattle.std.specs.Prelude.{length};
 ghost use Rattle.bounds.specs.Timetables.{OneDistance};
-ghost use Rattle.network.specs.Compiled.{Answered, DistancesAfter, GroupsAfter, LinksAfter, Tabled};
+ghost use Rattle.network.specs.Compiled.{Answered, Decided, DistancesAfter, GroupsAfter, LinksAfter, Tabled};
 ghost use Rattle.network.specs.Refusals.{early_refusal};
 
 use crate::closure::close;
-use crate::grid::fill;
+use crate::grid::clear;
 use crate::groups::find_groups;
 use crate::links::find_links;
 use crate::refusal::Refusal;
@@ -30,7 +30,8 @@ pub fn compile<S: Source>(
     groups: &mut [GroupEntry],
     links: &mut [Link],
 ) -> Result<Compiled, Refusal>
-    ensures answer { Answered (S.meaning source.now) (early_refusal (S.meaning source.now) (length distances.old) (length groups.old) (length links.old)) result }
+    ensures answer { Answered (S.meaning source.now).steps (early_refusal (S.meaning source.now) (length distances.old) (length groups.old) (length links.old)) result }
+    ensures decided { Decided (S.meaning source.now) (early_refusal (S.meaning source.now) (length distances.old) (length groups.old) (length links.old)) result }
     ensures tables { Tabled (S.meaning source.now) result distances.new groups.new links.new }
     ensures unique { OneDistance (S.meaning source.now) }
     ensures distances { DistancesAfter (S.meaning source.now).steps result distances.old distances.new }
@@ -45,12 +46,12 @@ pub fn compile<S: Source>(
         return Err(Refusal::Tables);
     }
     if let Some(item) = first_spoiled(source) {
-        fill(n, distances, 0);
+        clear(n, distances);
         return Err(Refusal::Spoiled(item));
     }
     gather(source, n, distances);
     if !close(n, distances) {
-        fill(n, distances, 0);
+        clear(n, distances);
         return Err(Refusal::NoTimetable);
     }
     let group_count = find_groups(n, distances, groups);

@@ -1,7 +1,7 @@
 // A square table of `n` rows of `n` numbers, kept row by row at the front of a slice.
 ghost use Rattle.std.specs.Prelude.{◌≡◌, ◌*◌, ◌<◌, ◌≤◌, length, drop};
 ghost use Rattle.bounds.specs.Limits.{most_steps};
-ghost use Rattle.network.specs.Grid.{Lowered, entry_at, filled};
+ghost use Rattle.network.specs.Grid.{Lowered, entry_at, zeroed};
 
 /// The entry of row `i` and column `j`.
 pub(crate) fn at(n: usize, table: &[i32], i: usize, j: usize) -> i32
@@ -27,13 +27,13 @@ pub(crate) fn lower(n: usize, table: &mut [i32], i: usize, j: usize, most: i32)
     table[i * n + j] = old.min(most);
 }
 
-/// Writes one number into every entry.
-pub(crate) fn fill(n: usize, table: &mut [i32], gap: i32)
+/// Writes 0 into every entry.
+pub(crate) fn clear(n: usize, table: &mut [i32])
     requires small { n ≤ most_steps }
     requires room { n * n ≤ length table.old }
-    ensures { table.new ≡ filled n gap table.old }
+    ensures { table.new ≡ zeroed n table.old }
 {
     for p in 0..n * n {
-        table[p] = gap;
+        table[p] = 0;
     }
 }

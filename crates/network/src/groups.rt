@@ -1,8 +1,8 @@
 // The rigid groups: steps whose times differ by the same number of seconds in every timetable.
-ghost use Rattle.std.specs.Prelude.{◌≡◌, ◌*◌, ◌<◌, ◌≤◌, length, drop, MatchBool};
+ghost use Rattle.std.specs.Prelude.{◌≡◌, ◌*◌, ◌<◌, ◌≤◌, length, drop, pos, ◌≤ℤ◌, MatchBool};
 ghost use Rattle.bounds.specs.Limits.{most_steps};
 ghost use Rattle.network.specs.Gaps.{Closed};
-ghost use Rattle.network.specs.Grid.{entry_at};
+ghost use Rattle.network.specs.Grid.{Settled, entry_at};
 ghost use Rattle.network.specs.Groups.{GroupTable, Leads, Rigid};
 
 use crate::grid::at;
@@ -13,8 +13,9 @@ pub(crate) fn find_groups(n: usize, table: &[i32], groups: &mut [GroupEntry]) ->
     requires small { n ≤ most_steps }
     requires room { n * n ≤ length table.now }
     requires entries { n ≤ length groups.old }
-    requires closed { Closed n (entry_at n table.now) }
-    ensures table { GroupTable n (entry_at n table.now) groups.new result }
+    requires settled { Settled n (entry_at n table.now) }
+    ensures table { Closed n (entry_at n table.now) → GroupTable n (entry_at n table.now) groups.new result }
+    ensures count { result ≤ n }
     ensures behind { drop n groups.new ≡ drop n groups.old }
 {
     let mut count = 0;
@@ -36,8 +37,10 @@ fn leader_of(n: usize, table: &[i32], step: usize) -> usize
     requires small { n ≤ most_steps }
     requires room { n * n ≤ length table.now }
     requires inside { step < n }
-    requires closed { Closed n (entry_at n table.now) }
-    ensures { Leads n (entry_at n table.now) step result }
+    requires settled { Settled n (entry_at n table.now) }
+    ensures leads { Closed n (entry_at n table.now) → Leads n (entry_at n table.now) step result }
+    ensures inside { result < n }
+    ensures before { pos 0 ≤ℤ entry_at n table.now result step }
 {
     let mut leader = step;
     // From the highest number down, so that of equally early members the lowest stays.
@@ -58,7 +61,7 @@ fn rigid(n: usize, table: &[i32], i: usize, j: usize) -> bool
     requires room { n * n ≤ length table.now }
     requires row { i < n }
     requires column { j < n }
-    requires closed { Closed n (entry_at n table.now) }
+    requires settled { Settled n (entry_at n table.now) }
     ensures { MatchBool result (Rigid (entry_at n table.now) i j) (Rigid (entry_at n table.now) i j → ⊥) }
 {
     at(n, table, i, j) + at(n, table, j, i) == 0

@@ -1,4 +1,6 @@
 // Compilation of a source of bounds into distances, rigid groups and a pruned table of links.
+#![tactic(auto)]
+
 mod closure;
 pub mod compiler;
 pub mod due;

@@ -1,12 +1,13 @@
 // The pruned table of links between the leaders of groups.
 ghost use Rattle.std.specs.Prelude.{◌≡◌, ℕ, ◌+◌, ◌-◌, ◌*◌, ◌<◌, ◌≤◌, true, length, take, drop, Some, MatchBool, MatchOption, MatchResult, ◌≢◌};
 ghost use Rattle.bounds.specs.Limits.{most_steps};
-ghost use Rattle.network.specs.Counting.{link_count, links_between, links_from};
-ghost use Rattle.queue.specs.Growing.{Grown};
+ghost use Rattle.queue.specs.Growing.{Gained};
+ghost use Rattle.network.specs.Counting.{least_count, links_between, links_from, most_count};
+ghost use Rattle.network.specs.Filling.{Grown};
 ghost use Rattle.network.specs.Grid.{Settled, entry_at};
 ghost use Rattle.network.specs.Groups.{is_leader};
 ghost use Rattle.network.specs.Order.{link_before};
-ghost use Rattle.network.specs.Links.{AddsUp, Dominated, KeptAs, KeptBetween, KeptFrom, LiesRight, LinkTable, Suits, gap_from, gap_to, joining, links_in};
+ghost use Rattle.network.specs.Links.{Dominated, Dominates, KeptBetween, KeptFrom, LeastKept, LinkTable, MostKept, held, least_link, most_link};
 
 use crate::grid::at;
 use crate::tables::{GroupEntry, Kind, Link};
@@ -49,10 +50,10 @@ fn push_from(
     requires room { n * n ≤ length table.now }
     requires entries { n ≤ length groups.now }
     requires inside { trigger < n }
-    requires leader { is_leader groups.now trigger ≡ true }
     requires slots { queue.old.len + links_from n (entry_at n table.now) trigger ≤ length queue.old.slots.now }
     requires settled { Settled n (entry_at n table.now) }
-    ensures { MatchResult result (λ _. Grown link_before (links_from n (entry_at n table.now) trigger) (KeptFrom n (entry_at n table.now) groups.now trigger n) queue.old queue.new) (λ _. ⊥) }
+    ensures grown { MatchResult result (λ _. Grown (links_from n (entry_at n table.now) trigger) queue.old queue.new) (λ _. ⊥) }
+    ensures gained { is_leader groups.now trigger ≡ true → MatchResult result (λ _. Gained link_before (links_from n (entry_at n table.now) trigger) (KeptFrom n (entry_at n table.now) groups.now trigger n) queue.old queue.new) (λ _. ⊥) }
 {
     for target in 0..n {
         if target != trigger && leads(groups, target) {
@@ -76,24 +77,24 @@ fn push_between(
     requires entries { n ≤ length groups.now }
     requires trigger { trigger < n }
     requires target { target < n }
-    requires trigger_leads { is_leader groups.now trigger ≡ true }
-    requires target_leads { is_leader groups.now target ≡ true }
     requires apart { target ≢ trigger }
     requires slots { queue.old.len + links_between (entry_at n table.now) trigger target ≤ length queue.old.slots.now }
     requires settled { Settled n (entry_at n table.now) }
-    ensures { MatchResult result (λ _. Grown link_before (links_between (entry_at n table.now) trigger target) (KeptBetween n (entry_at n table.now) groups.now trigger target) queue.old queue.new) (λ _. ⊥) }
+    ensures grown { MatchResult result (λ _. Grown (links_between (entry_at n table.now) trigger target) queue.old queue.new) (λ _. ⊥) }
+    ensures gained { is_leader groups.now trigger ≡ true → is_leader groups.now target ≡ true → MatchResult result (λ _. Gained link_before (links_between (entry_at n table.now) trigger target) (KeptBetween n (entry_at n table.now) groups.now trigger target) queue.old queue.new) (λ _. ⊥) }
 {
-    let most = kept_link(n, table, groups, trigger, target, Kind::Most);
+    let most = most_link(n, table, groups, trigger, target);
     push_kept(most, queue)?;
-    let least = kept_link(n, table, groups, trigger, target, Kind::Least);
+    let least = least_link(n, table, groups, trigger, target);
     push_kept(least, queue)?;
     Ok(())
 }
 
 // Pushes a link, if there is one.
 fn push_kept(link: Option<Link>, queue: &mut Queue<'_, Link>) -> Result<(), Full>
-    requires { queue.old.len + links_in link ≤ length queue.old.slots.now }
-    ensures { MatchResult result (λ _. Grown link_before (links_in link) (λ x. link ≡ Some x) queue.old queue.new) (λ _. ⊥) }
+    requires { queue.old.len + held link ≤ length queue.old.slots.now }
+    ensures grown { MatchResult result (λ _. Grown (held link) queue.old queue.new) (λ _. ⊥) }
+    ensures gained { MatchResult result (λ _. Gained link_before (held link) (λ x. link ≡ Some x) queue.old queue.new) (λ _. ⊥) }
 {
     match link {
         Some(link) => queue.push(link),
@@ -101,14 +102,13 @@ fn push_kept(link: Option<Link>, queue: &mut Queue<'_, Link>) -> Result<(), Full
     }
 }
 
-// The link of one kind from one leader to another, if it is kept.
-fn kept_link(
+// The most link from one leader to another, if it is kept.
+fn most_link(
     n: usize,
     table: &[i32],
     groups: &[GroupEntry],
     trigger: usize,
     target: usize,
-    kind: Kind,
 ) -> Option<Link>
     requires small { n ≤ most_steps }
     requires room { n * n ≤ length table.now }
@@ -117,47 +117,52 @@ fn kept_link(
     requires target { target < n }
     requires apart { target ≢ trigger }
     requires settled { Settled n (entry_at n table.now) }
-    ensures link { MatchOption result ((seconds : ℕ) → KeptAs n (entry_at n table.now) groups.now kind trigger target seconds → ⊥) (λ x. (x ≡ joining trigger target kind x.seconds) × KeptAs n (entry_at n table.now) groups.now kind trigger target x.seconds) }
-    ensures count { links_in result ≤ link_count kind (entry_at n table.now) trigger target }
+    ensures link { MatchOption result (MostKept n (entry_at n table.now) groups.now trigger target → ⊥) (λ x. MostKept n (entry_at n table.now) groups.now trigger target × (x ≡ most_link (entry_at n table.now) trigger target)) }
+    ensures count { held result ≤ most_count (entry_at n table.now) trigger target }
 {
-    let (from, to) = kind.limits(trigger, target);
-    let gap = at(n, table, from, to);
-    if !kind.suits(target, gap) || dominated(n, table, groups, from, to) {
+    let gap = at(n, table, trigger, target);
+    if target == 0 || gap < 0 || dominated(n, table, groups, trigger, target) {
         return None;
     }
     Some(Link {
         trigger: trigger as u8,
         target: target as u8,
-        kind,
+        kind: Kind::Most,
+        seconds: gap as u32,
+    })
+}
+
+// The least link from one leader to another, if it is kept.
+fn least_link(
+    n: usize,
+    table: &[i32],
+    groups: &[GroupEntry],
+    trigger: usize,
+    target: usize,
+) -> Option<Link>
+    requires small { n ≤ most_steps }
+    requires room { n * n ≤ length table.now }
+    requires entries { n ≤ length groups.now }
+    requires trigger { trigger < n }
+    requires target { target < n }
+    requires apart { target ≢ trigger }
+    requires settled { Settled n (entry_at n table.now) }
+    ensures link { MatchOption result (LeastKept n (entry_at n table.now) groups.now trigger target → ⊥) (λ x. LeastKept n (entry_at n table.now) groups.now trigger target × (x ≡ least_link (entry_at n table.now) trigger target)) }
+    ensures count { held result ≤ least_count (entry_at n table.now) trigger target }
+{
+    let gap = at(n, table, target, trigger);
+    if gap >= 0 || dominated(n, table, groups, target, trigger) {
+        return None;
+    }
+    Some(Link {
+        trigger: trigger as u8,
+        target: target as u8,
+        kind: Kind::Least,
         seconds: gap.unsigned_abs(),
     })
 }
 
-impl Kind {
-    // The two steps whose gap a link limits: a most link the way forth, a least link the way back.
-    fn limits(self, trigger: usize, target: usize) -> (usize, usize)
-        ensures from { result.0 ≡ gap_from self trigger target }
-        ensures to { result.1 ≡ gap_to self trigger target }
-    {
-        match self {
-            Kind::Most => (trigger, target),
-            Kind::Least => (target, trigger),
-        }
-    }
-
-    // Whether a link of this kind is for such a gap: a most link for one not below 0, unless it leads onto step 0, a least link for one below 0.
-    fn suits(self, target: usize, gap: i32) -> bool
-        ensures { MatchBool result (Suits self target gap) (Suits self target gap → ⊥) }
-    {
-        match self {
-            Kind::Most => target != 0 && gap >= 0,
-            Kind::Least => gap < 0,
-        }
-    }
-}
-
 // Whether a third leader dominates the gap from leader a to leader c, so that its link can be dropped.
-// The sum is tested first: it holds for few steps, so the other tests are seldom asked.
 fn dominated(n: usize, table: &[i32], groups: &[GroupEntry], a: usize, c: usize) -> bool
     requires small { n ≤ most_steps }
     requires room { n * n ≤ length table.now }
@@ -168,45 +173,30 @@ fn dominated(n: usize, table: &[i32], groups: &[GroupEntry], a: usize, c: usize)
     ensures { MatchBool result (Dominated n (entry_at n table.now) groups.now a c) (Dominated n (entry_at n table.now) groups.now a c → ⊥) }
 {
     for b in 0..n {
-        if adds_up(n, table, a, b, c)
-            && leads(groups, b)
-            && b != a
-            && b != c
-            && lies_right(n, table, a, b, c)
-        {
+        if b != a && b != c && leads(groups, b) && dominates(n, table, a, b, c) {
             return true;
         }
     }
     false
 }
 
-// Whether the gap from a to c is the sum of the gaps through b.
-fn adds_up(n: usize, table: &[i32], a: usize, b: usize, c: usize) -> bool
+// Whether the gap from a to c is the sum of the gaps through b, and b lies on the side that the kind of the link asks for.
+fn dominates(n: usize, table: &[i32], a: usize, b: usize, c: usize) -> bool
     requires small { n ≤ most_steps }
     requires room { n * n ≤ length table.now }
     requires from { a < n }
     requires via { b < n }
     requires to { c < n }
     requires settled { Settled n (entry_at n table.now) }
-    ensures { MatchBool result (AddsUp (entry_at n table.now) a b c) (AddsUp (entry_at n table.now) a b c → ⊥) }
+    ensures { MatchBool result (Dominates (entry_at n table.now) a b c) (Dominates (entry_at n table.now) a b c → ⊥) }
 {
-    at(n, table, a, b) + at(n, table, b, c) == at(n, table, a, c)
-}
-
-// Whether b lies on the side of the gap from a to c that the kind of the link asks for.
-fn lies_right(n: usize, table: &[i32], a: usize, b: usize, c: usize) -> bool
-    requires small { n ≤ most_steps }
-    requires room { n * n ≤ length table.now }
-    requires from { a < n }
-    requires via { b < n }
-    requires to { c < n }
-    ensures { MatchBool result (LiesRight (entry_at n table.now) a b c) (LiesRight (entry_at n table.now) a b c → ⊥) }
-{
-    if at(n, table, a, c) >= 0 {
-        at(n, table, b, c) >= 0
-    } else {
-        at(n, table, a, b) < 0
+    let whole = at(n, table, a, c);
+    let first = at(n, table, a, b);
+    let second = at(n, table, b, c);
+    if first + second != whole {
+        return false;
     }
+    if whole >= 0 { second >= 0 } else { first < 0 }
 }
 
 // Whether a step leads its group.

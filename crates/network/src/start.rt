@@ -9,7 +9,7 @@ ghost use Rattle.network.specs.Gaps.{Capped, Narrowed};
 ghost use Rattle.network.specs.Grid.{Rough, entry_at, unbounded};
 ghost use Rattle.std.specs.List.{AllByRecursion};
 
-use crate::grid::{fill, lower};
+use crate::grid::lower;
 use bounds::limits::HORIZON;
 use bounds::{Bound, Item, Source};
 
@@ -41,11 +41,16 @@ fn unbind(n: usize, table: &mut [i32])
     ensures gaps { (i j : ℕ) → i < n → j < n → entry_at n table.new i j ≡ unbounded i j }
     ensures behind { drop (n * n) table.new ≡ drop (n * n) table.old }
 {
-    fill(n, table, HORIZON);
-    for i in 0..n {
-        lower(n, table, i, 0, 0);
-        lower(n, table, i, i, 0);
+    for p in 0..n * n {
+        table[p] = unbounded_gap(p / n, p % n);
     }
+}
+
+// The greatest gap from step i to step j in a job without bounds.
+fn unbounded_gap(i: usize, j: usize) -> i32
+    ensures { result ≡ unbounded i j }
+{
+    if i == j || j == 0 { 0 } else { HORIZON }
 }
 
 // Lowers the two gaps that a bound speaks of: an upper end caps the gap forth, a lower end the gap back.

@@ -1,7 +1,7 @@
 -- The index stays right, and what it is good for.
-use Rattle.std.proofs.Common.{◌≡◌, ℕ, zero, suc, ◌+◌, ◌-◌, ◌<◌, ◌≤◌, Bool, true, false, cond, ◌&&◌, eqb, ◌⊎◌, ◌↔◌, List, [], ◌∷◌, length, get_or, take, drop, set, sym, refl, ap, ◌∙◌, inl, inr, arith, length-set}
-use Rattle.std.proofs.lemmas.List.{get_or-set_same, get_or-set_other, get_or_past, set_past}
-use Rattle.std.proofs.lemmas.Bool.{cases_eq, cases_lt, cases_Bool, both_ways, eq-eqb, ne_eqb, eqb-true, cond-true, cond-false, cond_both}
+use Rattle.std.proofs.Common.{◌≡◌, ℕ, zero, suc, ◌+◌, ◌-◌, ◌<◌, ◌≤◌, Bool, true, false, cond, ◌&&◌, eqb, ◌↔◌, List, [], ◌∷◌, length, get_or, take, drop, set, sym, refl, ap, ◌∙◌, inl, inr, arith, length-set}
+use Rattle.std.proofs.lemmas.List.{get_or-set_same, get_or-set_other, set_past}
+use Rattle.std.proofs.lemmas.Bool.{cases_eq, cases_lt, cases_Bool, eq-eqb, ne_eqb, eqb-true, cond-true, cond-false, cond_both}
 use Rattle.bounds.specs.Limits.{most_steps}
 use Rattle.network.specs.declared.tables.GroupEntry.{GroupEntry}
 use Rattle.network.specs.declared.tables.Kind.{Kind}
@@ -15,7 +15,7 @@ use Rattle.network.specs.Groups.{group_at as entry_of}
 use Rattle.pacer.specs.Calls.{cued, settled}
 use Rattle.pacer.specs.Fixing.{after_link, applied, fixed, no_link, one_wait_less, span_at, spanned}
 use Rattle.pacer.specs.Groups.{is_open, narrowed, no_group}
-use Rattle.pacer.specs.Index.{is_least, least_onto, holds_back, count, Covered, Sized, Indexed, WaitsFor, Plain}
+use Rattle.pacer.specs.Index.{is_least, least_onto, holds_back, count, Indexed, Plain}
 use Rattle.pacer.specs.States.{group_at, waits_at, with_group}
 
 -- a link with this trigger

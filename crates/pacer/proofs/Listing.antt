@@ -1,18 +1,18 @@
 -- The list of what is due, step by step.
-use Rattle.std.proofs.Common.{◌≡◌, ℕ, ◌+◌, ◌<◌, ◌≤◌, true, false, cond, not, ◌⊎◌, ◌↔◌, List, is_some, None, sym, refl, ap, ◌∙◌, subst, inl, inr, arith}
+use Rattle.std.proofs.Common.{◌≡◌, ℕ, ◌+◌, ◌≤◌, true, false, cond, not, ◌⊎◌, ◌↔◌, List, is_some, sym, ap, ◌∙◌, subst, inl, inr, arith}
 use mathlib.Core.List.{Memᴰ}
 use Rattle.std.proofs.lemmas.Bool.{cases_eq}
 use Rattle.network.specs.Order.{due_before}
 use Rattle.network.specs.declared.due.DueEntry.{DueEntry}
 use Rattle.network.specs.declared.tables.GroupEntry.{GroupEntry}
 use Rattle.network.proofs.Counting.{sum_more, sum_front}
-use Rattle.queue.specs.Growing.{Grown}
+use Rattle.queue.specs.Growing.{Gained}
 use Rattle.queue.specs.Held.{held}
 use Rattle.queue.specs.declared.lent.Queue.{Queue}
-use Rattle.queue.proofs.Growing.{grown_from_none}
+use Rattle.queue.proofs.Growing.{gained_from_none}
 use Rattle.pacer.specs.declared.state.State.{State}
 use Rattle.pacer.specs.Due.{Due, DueTable, due_of, uncued_count}
-use Rattle.pacer.specs.Rules.{Uncued, upper_end}
+use Rattle.pacer.specs.Rules.{upper_end}
 use Rattle.pacer.specs.States.{cue_at}
 use Rattle.pacer.proofs.Steps.{none_from_test, some_from_test}
 
@@ -60,7 +60,7 @@ module _ (es : List GroupEntry) (s : State) where
   )
 
   -- a queue that was empty, and has the entry of every due step, holds the table
-  pub table_held : (j k n : ℕ) (p q : Queue DueEntry) → k ≡ n → p.len ≡ 0 → Grown due_before j (Due k es s) p q → DueTable n es s (held q)
-  table_held j k n p q all empty grown =
-      let (ascending, holds) = grown_from_none due_before j (Due k es s) p q empty grown in
+  pub table_held : (j k n : ℕ) (p q : Queue DueEntry) → k ≡ n → p.len ≡ 0 → Gained due_before j (Due k es s) p q → DueTable n es s (held q)
+  table_held j k n p q all empty gained =
+      let (ascending, holds) = gained_from_none due_before j (Due k es s) p q empty gained in
       record { ascending = ascending; exact = subst (λ (i : ℕ). (x : DueEntry) → Memᴰ x (held q) ↔ Due i es s x) all holds }

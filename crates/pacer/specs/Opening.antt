@@ -1,18 +1,16 @@
 -- Which tables a run is opened on, and how it begins.
-use Rattle.std.specs.Prelude.{◌≡◌, ℕ, ◌<◌, ◌≤◌, ◌⊎◌, List, length, take, replicate, None, Option, Result, MatchResult, slice_index, slice_index_or}
+use Rattle.std.specs.Prelude.{◌≡◌, ℕ, ◌<◌, ◌≤◌, ◌⊎◌, List, length, take, replicate, None, Option, slice_index, slice_index_or}
 use Rattle.bounds.specs.Limits.{horizon, most_steps}
 use Rattle.network.specs.Groups.{group_at as entry_of}
 use Rattle.network.specs.declared.tables.GroupEntry.{GroupEntry}
 use Rattle.network.specs.declared.tables.Link.{Link}
-use Rattle.pacer.specs.declared.group.Group.{Group}
 use Rattle.pacer.specs.declared.group.Group.TheVariants.{Open}
 use Rattle.pacer.specs.declared.index.Span.{Span}
-use Rattle.pacer.specs.declared.refusal.OpenRefusal.{OpenRefusal}
 use Rattle.pacer.specs.declared.run.Run.{Run}
 use Rattle.pacer.specs.declared.state.State.{State}
 use Rattle.pacer.specs.Fixing.{fixed, no_link, span_at, spanned}
 use Rattle.pacer.specs.Index.{Ready, count, least_onto}
-use Rattle.pacer.specs.Refusals.{given, open_number, refused_with, taken}
+use Rattle.pacer.specs.Refusals.{given, taken}
 use Rattle.pacer.specs.States.{with_cue}
 
 -- a step leads itself, at offset 0

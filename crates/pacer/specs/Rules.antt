@@ -1,5 +1,5 @@
 -- When a call is taken or refused, over the group table and the plain state of a run.
-use Rattle.std.specs.Prelude.{◌≡◌, ℕ, ◌+◌, ◌<◌, ◌≤◌, true, ◌⊎◌, List, Some, None, Option, ◌≢◌}
+use Rattle.std.specs.Prelude.{◌≡◌, ℕ, ◌+◌, ◌<◌, ◌≤◌, true, ◌⊎◌, List, None, Option, ◌≢◌}
 use Rattle.network.specs.Groups.{group_at as entry_of}
 use Rattle.network.specs.declared.tables.GroupEntry.{GroupEntry}
 use Rattle.pacer.specs.declared.group.Call.TheVariants.{Cue}

@@ -1,7 +1,7 @@
 // The list of what is due.
 ghost use Rattle.std.specs.Prelude.{◌≡◌, ◌+◌, ◌<◌, length, MatchResult};
 ghost use Rattle.network.specs.Order.{due_before};
-ghost use Rattle.queue.specs.Growing.{Grown};
+ghost use Rattle.queue.specs.Growing.{Gained};
 ghost use Rattle.pacer.specs.Due.{Listed, due_of, uncued_count};
 
 use crate::group::Call;
@@ -63,7 +63,7 @@ fn push_due(
     queue: &mut Queue<'_, DueEntry>,
 ) -> Result<(), Full>
     requires { queue.old.len < length queue.old.slots.now }
-    ensures grown { MatchResult result (λ _. Grown due_before 1 (λ x. x ≡ due_of entries.now state.entry.now step) queue.old queue.new) (λ _. ⊥) }
+    ensures gained { MatchResult result (λ _. Gained due_before 1 (λ x. x ≡ due_of entries.now state.entry.now step) queue.old queue.new) (λ _. ⊥) }
     ensures count { MatchResult result (λ _. queue.new.len ≡ queue.old.len + 1) (λ _. ⊥) }
 {
     queue.push(DueEntry {

@@ -1,4 +1,6 @@
 // The run of a job: when a step may start, what is due, and what a call leaves.
+#![tactic(auto)]
+
 pub mod calls;
 pub mod due;
 mod fixing;

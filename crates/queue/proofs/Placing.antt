@@ -4,7 +4,7 @@ use mathlib.Core.List.Memᴰ
 use mathlib.Core.List.{Memᴰ}
 use Rattle.std.proofs.lemmas.List.{drop-set, drop_more, get_or-take, take-set-le, set_split, take-take, drop_all, length-take-le, take-append-drop, take_at, drop_at, drop-drop, take_more}
 use Rattle.std.proofs.lemmas.Bool.{both_ways, and_from, and_parts, and_cases, and_left, and_right, cond-true, cond-false, cond_both, cases_Bool}
-use Rattle.queue.specs.Order.{OneOf, first, second, same, Total, NoneBefore, Ascending, Strictly, after_all, placed}
+use Rattle.queue.specs.Order.{first, second, same, Total, NoneBefore, Ascending, Strictly, after_all, placed}
 
 -- what is the same from m on is the same from n on
 pub rest_onward : {X : Type 0} (m n : ℕ) (xs ys : List X) → m ≤ n → drop m xs ≡ drop m ys → drop n xs ≡ drop n ys

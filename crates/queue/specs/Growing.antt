@@ -6,7 +6,7 @@ use Rattle.queue.specs.Held.{held}
 use Rattle.queue.specs.Order.{Strictly}
 
 -- q holds the entries of p and those that are Added, at most k more, over the same slots; the slots behind them are as they were
-pub record Grown {X : Type 0} (lt : X → X → Bool) (k : ℕ) (Added : X → Type 0) (p q : Queue X) : Type 0 where
+pub record Gained {X : Type 0} (lt : X → X → Bool) (k : ℕ) (Added : X → Type 0) (p q : Queue X) : Type 0 where
   pub most : q.len ≤ p.len + k
   pub least : p.len ≤ q.len
   pub rest : drop q.len q.slots.now ≡ drop q.len p.slots.now

@@ -1,4 +1,6 @@
 // An ordered queue over lent memory, for every entry type whose order is total.
+#![tactic(auto)]
+
 mod insertion;
 pub mod lent;
 pub mod order;

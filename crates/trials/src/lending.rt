@@ -1,7 +1,7 @@
 // The two lawful orders of a run over lent tables and a compilation: into other tables at any time, into the same ones after the run's last use.
 // A third order, compiling into tables that a run still reads, does not compile: the gate tries that line.
 ghost use Rattle.std.specs.Prelude.{◌≡◌, length};
-ghost use Rattle.network.specs.Compiled.{Answered, Tabled};
+ghost use Rattle.network.specs.Compiled.{Decided, Tabled};
 ghost use Rattle.network.specs.Refusals.{early_refusal};
 ghost use Rattle.pacer.specs.Calls.{look_answer};
 
@@ -17,7 +17,7 @@ pub fn compile_other_tables_during_a_run<S: Source>(
     groups: &mut [GroupEntry],
     links: &mut [Link],
 ) -> (Result<Compiled, Refusal>, Result<Window, NoSuchStep>)
-    ensures answer { Answered (S.meaning source.now) (early_refusal (S.meaning source.now) (length distances.old) (length groups.old) (length links.old)) result.0 }
+    ensures answer { Decided (S.meaning source.now) (early_refusal (S.meaning source.now) (length distances.old) (length groups.old) (length links.old)) result.0 }
     ensures tables { Tabled (S.meaning source.now) result.0 distances.new groups.new links.new }
     ensures seen { result.1 ≡ look_answer run.now.steps run.now.entries.now run.now.state 0 }
 {
@@ -32,7 +32,7 @@ pub fn compile_same_tables_after_a_run<S: Source>(
     groups: &mut [GroupEntry],
     links: &mut [Link],
 ) -> Result<Compiled, Refusal>
-    ensures answer { Answered (S.meaning source.now) (early_refusal (S.meaning source.now) (length distances.old) (length groups.old) (length links.old)) result }
+    ensures answer { Decided (S.meaning source.now) (early_refusal (S.meaning source.now) (length distances.old) (length groups.old) (length links.old)) result }
     ensures tables { Tabled (S.meaning source.now) result distances.new groups.new links.new }
 {
     let first = compile(source, distances, groups, links)?;

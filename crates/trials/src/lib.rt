@@ -1,4 +1,6 @@
 // Examples of the crates of this repository at work.
+#![tactic(auto)]
+
 pub mod borrowing;
 #[cfg(test)]
 mod cards;

@@ -69,7 +69,7 @@ returns-in-Ok c =
     record {
       answer = λ few.
           answered _ _ _ _ _ _ _ (the_job at few) _ _ _ (compiled_early at few) (handed_early at few) c.loop.distances c.loop.invariant (Ok c.in-Ok.compiled)
-          (of_job at few (λ m. network.Answered m (early_refusal m (length c.loop.distances) (length c.loop.group_table) (length c.loop.link_table)) (Ok c.in-Ok.compiled)) c.in-Ok.ensures.answer)
+          (of_job at few (λ m. network.Decided m (early_refusal m (length c.loop.distances) (length c.loop.group_table) (length c.loop.link_table)) (Ok c.in-Ok.compiled)) c.in-Ok.ensures.decided)
           (handed _ _ _ _ _ _ (the_job at few) c.in-Ok.compiled _ _ (of_job at few (λ m. network.TablesOf m c.in-Ok.compiled c.compile-2.new.distances c.compile-2.new.groups c.compile-2.new.links) c.in-Ok.ensures.tables)
           (c.compile-2.auto.groups ∙ each at) refl c.write-in-Ok.ensures c.write-in-Ok-2.ensures);
       distances = left at;
@@ -81,7 +81,7 @@ returns-in-Err c =
     record {
       answer = λ few.
           answered _ _ _ _ _ _ _ (the_job at few) _ _ _ (compiled_early at few) (handed_early at few) c.loop.distances c.loop.invariant (Err c.in-Err.refusal)
-          (of_job at few (λ m. network.Answered m (early_refusal m (length c.loop.distances) (length c.loop.group_table) (length c.loop.link_table)) (Err c.in-Err.refusal)) c.in-Err.ensures.answer)
+          (of_job at few (λ m. network.Decided m (early_refusal m (length c.loop.distances) (length c.loop.group_table) (length c.loop.link_table)) (Err c.in-Err.refusal)) c.in-Err.ensures.decided)
           (c.refused-in-Err.ensures, of_job at few (λ m. network.DistancesAfter m.steps (Err c.in-Err.refusal) c.loop.distances c.compile-2.new.distances) c.in-Err.ensures.distances, refl, refl);
       distances = left at;
     }

@@ -1,5 +1,5 @@
 use Rattle.std.proofs.Common.{◌≡◌, pos, neg_ℤ, ◌≤ℤ◌, ◌∙◌, arith, w32, to_z, of_z}
-use Rattle.std.proofs.lemmas.Int.{ints, clamps}
+use Rattle.std.proofs.lemmas.Int.{ints}
 use Rattle.bounds.specs.Limits.{horizon}
 use Rattle.network.specs.Grid.{entry_at}
 use Rattle.network.specs.Lines.{number_at, Near}

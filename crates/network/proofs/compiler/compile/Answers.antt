@@ -1,4 +1,4 @@
-use Rattle.std.proofs.Common.{◌≡◌, ℕ, ◌-◌, ◌*◌, ◌≤◌, length, take, drop, sym, refl, ap, ◌∙◌, subst, arith, rules}
+use Rattle.std.proofs.Common.{◌≡◌, ℕ, ◌-◌, ◌*◌, length, take, drop, unwrap_or, sym, refl, ap, ◌∙◌, subst, arith, rules}
 use Rattle.std.specs.Option.{option_map}
 use Rattle.std.specs.List.{AllByRecursion}
 use Rattle.std.proofs.lemmas.Bool.{cond-false}
@@ -7,12 +7,13 @@ use Rattle.bounds.specs.Timetables.{Keeps}
 use Rattle.bounds.specs.Told.{told_spoiled}
 use Rattle.bounds.proofs.Within.{within}
 use Rattle.network.specs.Compiled.{leaves_distances}
-use Rattle.network.specs.Gaps.{Narrowed, Closes, Hopeless}
+use Rattle.network.specs.Gaps.{Narrowed, Closed, Closes, Hopeless}
 use Rattle.network.specs.Grid.{entry_at, unbounded}
 use Rattle.network.specs.Groups.{GroupTable}
 use Rattle.network.specs.Links.{LinkTable}
 use Rattle.network.specs.Refusals.{told, early_refusal}
-use Rattle.network.proofs.Compiling.{early_by_items, spoiled_clears, filled_same, answered_early, answered_none, says_all}
+use Rattle.network.specs.declared.refusal.Refusal.TheVariants.{NoTimetable}
+use Rattle.network.proofs.Compiling.{early_by_items, spoiled_clears, zeroed_same, decided_early, decided_none, says_all}
 use Rattle.network.proofs.Narrowing.{hopeless_infeasible, closed_distances, closed_feasible, one_distance}
 use Rattle.network.proofs.compiler.compile.Given as given
 use Rattle.network.proofs.compiler.compile.Goals as goal
@@ -35,10 +36,11 @@ says g c =
 
 pub returns-in-Some : goal.returns-in-Some
 returns-in-Some g c = record {
-  answer = answered_early _ _ _ (early g (goal.at.returns-in-Some g c).After-first_spoiled ∙ ap (option_map told_spoiled) c.in-Some.is);
+  answer = sym (ap (λ o. unwrap_or o (told NoTimetable)) (early g (goal.at.returns-in-Some g c).After-first_spoiled ∙ ap (option_map told_spoiled) c.in-Some.is));
+  decided = decided_early _ _ _ (early g (goal.at.returns-in-Some g c).After-first_spoiled ∙ ap (option_map told_spoiled) c.in-Some.is);
   tables = tt;
   unique = one_distance _;
-  distances = c.fill.ensures ∙ filled_same _ _ _ _ _ c.steps-n.ensures refl
+  distances = c.clear.ensures ∙ zeroed_same _ _ _ _ c.steps-n.ensures refl
       ∙ sym (cond-false (leaves_distances (told_spoiled c.in-Some.item)) _ _ (spoiled_clears c.in-Some.item.fault c.in-Some.item.place));
   groups = search rules;
   links = search rules;
@@ -50,11 +52,12 @@ returns-then-not-close g c =
     let P : ℕ → Type 0 = λ n. Hopeless n (entry_at n c.gather.new.table) in
     let some = (within m (sym c.if-beyond_limits.ensures)).some in
     record {
-      answer = answered_none _ _ (early g (goal.at.returns-then-not-close g c).After-first_spoiled ∙ ap (option_map told_spoiled) c.in_default.is)
+      answer = sym (ap (λ o. unwrap_or o (told NoTimetable)) (early g (goal.at.returns-then-not-close g c).After-first_spoiled ∙ ap (option_map told_spoiled) c.in_default.is));
+      decided = decided_none _ _ (early g (goal.at.returns-then-not-close g c).After-first_spoiled ∙ ap (option_map told_spoiled) c.in_default.is)
           (hopeless_infeasible m some _ (says g (goal.at.returns-then-not-close g c).After-gather) (subst P c.steps-n.ensures c.if-not-close.ensures.closed));
       tables = tt;
       unique = one_distance _;
-      distances = c.fill-then-not-close.ensures ∙ filled_same _ _ _ _ _ c.steps-n.ensures (c.close.ensures.behind ∙ c.gather.ensures.behind);
+      distances = c.clear-then-not-close.ensures ∙ zeroed_same _ _ _ _ c.steps-n.ensures (c.close.ensures.behind ∙ c.gather.ensures.behind);
       groups = search rules;
       links = search rules;
     }
@@ -71,11 +74,14 @@ returns g c =
     let closes : Closes m.steps (entry_at m.steps xs) (entry_at m.steps ys) =
     subst (λ (n : ℕ). Closes n (entry_at n xs) (entry_at n ys)) e c.if-not-close.ensures.closed in
     let gathered = says g (goal.at.returns g c).After-gather in
+    let unrefused = early g (goal.at.returns g c).After-first_spoiled ∙ ap (option_map told_spoiled) c.in_default.is in
+    let table : Closed c.steps-n.result (entry_at c.steps-n.result ys) = c.if-not-close.ensures.closed.closed in
     record {
-      answer = (early g (goal.at.returns g c).After-first_spoiled ∙ ap (option_map told_spoiled) c.in_default.is, closed_feasible m some _ gathered _ closes);
+      answer = (unrefused, omega (arith, c.find_groups-group_count.ensures.count, e), omega (arith, found.count, ap (λ k. k * (k - 1)) e));
+      decided = (unrefused, closed_feasible m some _ gathered _ closes);
       tables = record {
         distances_of = closed_distances m some _ gathered _ closes;
-        groups_of = subst (λ (n : ℕ). GroupTable n (entry_at n ys) gs c.find_groups-group_count.result) e c.find_groups-group_count.ensures.table;
+        groups_of = subst (λ (n : ℕ). GroupTable n (entry_at n ys) gs c.find_groups-group_count.result) e (c.find_groups-group_count.ensures.table table);
         links_of = subst (λ (n : ℕ). LinkTable n (entry_at n ys) gs (take c.in_ok-link_count.link_count c.find_links.new.links)) e found.links;
         links_in_table = omega (arith, found.count, c.if-links-n.false, c.find_links.auto.links);
       };

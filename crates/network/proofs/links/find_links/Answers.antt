@@ -1,16 +1,16 @@
 use Rattle.std.proofs.Common.{◌≡◌, ℕ, ◌+◌, length, take, drop, sym, ap, ◌∙◌, subst, arith, rules}
-use Rattle.network.specs.Counting.{links_from, sum_below}
+use Rattle.network.specs.Counting.{links_from}
 use Rattle.network.specs.Grid.{entry_at}
 use Rattle.network.specs.Links.{LinkTable}
 use Rattle.network.proofs.Counting.{links_all, sum_front, sum_more}
 use Rattle.network.specs.Order.{link_before}
-use Rattle.queue.proofs.Growing.{grown_none, grown_more, grown_same}
+use Rattle.queue.proofs.Growing.{gained_none, gained_more, gained_same}
 use Rattle.network.proofs.Keeping.{before_more, before_apart, before_skipped, table_held}
 use Rattle.network.proofs.links.find_links.Goals as goal
 use Rattle.network.proofs.links.find_links.Goals.{then-leads+in_ok-push_from, else-leads}
 
 pub loop-trigger-init : goal.loop-trigger-init
-loop-trigger-init c = grown_none link_before _ _ _ (λ x h. omega (arith, h.1))
+loop-trigger-init c = gained_none link_before _ _ _ (λ x h. omega (arith, h.1))
 
 pub push_from-requires : goal.push_from-requires
 push_from-requires c =
@@ -21,7 +21,6 @@ push_from-requires c =
       room = c.requires.room;
       entries = c.requires.entries;
       inside = c.loop-trigger-test.true;
-      leader = sym c.if-leads.ensures;
       slots = omega (
         arith,
         c.loop-trigger.invariant.most,
@@ -45,10 +44,10 @@ loop-trigger-preserved c =
     let more = sum_more (links_from n d) k in
     elim c.if-leads.branch [
       | then-leads+in_ok-push_from w ↦
-          grown_same link_before _ _ _ _ _ w.queue-is (grown_more link_before _ _ _ _ _ _ _ _ _ (omega (arith, more)) (before_more n d gs k) (before_apart n d gs k) c.loop-trigger.invariant w.in_ok-push_from.ensures)
+          gained_same link_before _ _ _ _ _ w.queue-is (gained_more link_before _ _ _ _ _ _ _ _ _ (omega (arith, more)) (before_more n d gs k) (before_apart n d gs k) c.loop-trigger.invariant (w.in_ok-push_from.ensures.gained (sym w.if-leads.ensures)))
       | else-leads w ↦
-          grown_same link_before _ _ _ _ _ w.queue-is
-          (grown_more link_before _ 0 _ _ _ _ _ _ _ (omega (arith, more)) (before_more n d gs k) (before_apart n d gs k) c.loop-trigger.invariant (grown_none link_before 0 _ _ (before_skipped n d gs k (sym w.if-leads.ensures))))
+          gained_same link_before _ _ _ _ _ w.queue-is
+          (gained_more link_before _ 0 _ _ _ _ _ _ _ (omega (arith, more)) (before_more n d gs k) (before_apart n d gs k) c.loop-trigger.invariant (gained_none link_before 0 _ _ (before_skipped n d gs k (sym w.if-leads.ensures))))
     ]
 
 pub returns : goal.returns

@@ -1,4 +1,4 @@
-use Rattle.std.proofs.Common.{◌≡◌, neg_ℤ, ◌∙◌}
+use Rattle.std.proofs.Common.{neg_ℤ, ◌∙◌}
 use Rattle.std.specs.Option.{option_map}
 use Rattle.network.specs.Gaps.{Capped, Narrowed}
 use Rattle.network.specs.Grid.{entry_at}

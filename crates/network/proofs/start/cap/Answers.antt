@@ -1,4 +1,4 @@
-use Rattle.std.proofs.Common.{◌≡◌, ℤ, Option, sym, subst, w32, SFits, rules}
+use Rattle.std.proofs.Common.{ℤ, Option, sym, subst, w32, SFits, rules}
 use Rattle.std.proofs.lemmas.Int.{to_z-of_z}
 use Rattle.network.specs.Gaps.{Capped, Narrowed}
 use Rattle.network.specs.Grid.{Lowered, entry_at}

@@ -1,15 +1,11 @@
-use Rattle.std.proofs.Common.{◌≡◌, ◌+◌, ◌*◌, ◌≤◌, [], ◌∷◌, length, drop, sym, refl, ap, ◌∙◌, subst, arith}
-use Rattle.bounds.specs.Limits.{most_items}
+use Rattle.std.proofs.Common.{◌≡◌, ◌*◌, drop, refl, ap, ◌∙◌, subst, arith}
 use Rattle.bounds.specs.Meaning.{Below}
-use Rattle.bounds.specs.Spoiled.{readable}
 use Rattle.bounds.specs.Timetables.{Keeps}
-use Rattle.bounds.specs.declared.item.Item.{Item}
 use Rattle.bounds.specs.declared.item.Item.TheVariants.{Bound}
 use Rattle.bounds.proofs.Reading.{read_lawful, read_found, read_end, read_counted}
 use Rattle.network.specs.Gaps.{Narrowed}
 use Rattle.network.specs.Grid.{Rough, entry_at, unbounded}
-use Rattle.network.proofs.Narrowing.{Left, left_first, left_more, left_none}
-use Rattle.network.proofs.start.gather.Given as given
+use Rattle.network.proofs.Narrowing.{left_first, left_more, left_none}
 use Rattle.network.proofs.start.gather.Goals as goal
 use Rattle.network.proofs.start.gather.Goals.{in-Bound, in_default-item}
 

@@ -1,24 +1,16 @@
-use Rattle.std.proofs.Common.{◌≡◌, ◌*◌, drop, pos, refl, ap, ◌∙◌, arith}
-use Rattle.bounds.specs.Limits.{horizon}
-use Rattle.network.specs.Grid.{entry_at}
-use Rattle.network.proofs.Starting.{behind_filled, begun_first, begun_more, begun_entry, begun_rough}
+use Rattle.std.proofs.Common.{◌*◌, ◌∙◌, arith}
+use Rattle.std.proofs.lemmas.List.{drop-set-lt}
+use Rattle.std.proofs.lemmas.Int.{ints}
+use Rattle.network.proofs.Starting.{Begun, begun_more, begun_rough, entry_unbounded}
 use Rattle.network.proofs.start.unbind.Goals as goal
 
-pub loop-i-init : goal.loop-i-init
-loop-i-init c = (begun_first _ _ _ c.fill.ensures, refl)
-
-pub loop-i-preserved : goal.loop-i-preserved
-loop-i-preserved c = (
-  begun_more _ _ _ _ _ c.loop-i-test.true c.loop-i.invariant.0 c.lower.ensures.lowered c.lower-in-loop-i.ensures.lowered,
-  c.lower-in-loop-i.ensures.behind ∙ c.lower.ensures.behind ∙ c.loop-i.invariant.1,
+pub loop-p-preserved : goal.loop-p-preserved
+loop-p-preserved c = (
+  begun_more _ _ _ _ (omega arith) (omega (arith, ints) ∙ c.unbounded_gap.ensures) c.loop-p.invariant.0,
+  drop-set-lt _ c.loop-p.table _ _ c.loop-p-test.true ∙ c.loop-p.invariant.1,
 )
 
 pub returns : goal.returns
 returns c =
-    let n = c.args.n in
-    let d = entry_at n c.loop-i.table in
-    record {
-      rough = begun_rough n d _ (omega arith) c.loop-i.invariant.0;
-      gaps = begun_entry n d _ (omega arith) c.loop-i.invariant.0;
-      behind = c.loop-i.invariant.1 ∙ ap (drop (n * n)) c.fill.ensures ∙ behind_filled n (pos horizon) c.args.table.now;
-    }
+    let begun : Begun c.args.n c.loop-p.table (c.args.n * c.args.n) = λ q h. c.loop-p.invariant.0 q (omega arith) in
+    record { rough = begun_rough _ _ begun; gaps = entry_unbounded _ _ begun; behind = c.loop-p.invariant.1 }

@@ -1,6 +1,6 @@
-use Rattle.std.proofs.Common.{◌≡◌, ◌≤◌, length, take, sym, ap, ◌∙◌, arith}
+use Rattle.std.proofs.Common.{length, ap, ◌∙◌, arith}
 use Rattle.std.proofs.lemmas.List.{take_all}
-use Rattle.pacer.specs.Fixing.{fixed, span_at, spanned}
+use Rattle.pacer.specs.Fixing.{fixed, spanned}
 use Rattle.pacer.specs.Index.{count, least_onto}
 use Rattle.pacer.specs.Opening.{fresh}
 use Rattle.pacer.specs.States.{with_cue}

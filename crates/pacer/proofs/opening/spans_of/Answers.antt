@@ -1,4 +1,4 @@
-use Rattle.std.proofs.Common.{◌≡◌, ◌+◌, List, length, get_or, set, sym, ap, ◌∙◌, subst, arith}
+use Rattle.std.proofs.Common.{◌≡◌, ◌+◌, List, get_or, set, sym, ap, ◌∙◌, subst}
 use Rattle.pacer.specs.declared.index.Span.{Span}
 use Rattle.pacer.specs.Fixing.{first_of, no_link, span_at}
 use Rattle.pacer.specs.Index.{SpansSoFar}

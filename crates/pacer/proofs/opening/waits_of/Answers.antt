@@ -1,4 +1,4 @@
-use Rattle.std.proofs.Common.{◌≡◌, ℕ, ◌+◌, List, get_or, sym, refl, ap, ◌∙◌, subst, arith}
+use Rattle.std.proofs.Common.{ℕ, ◌+◌, List, get_or, sym, refl, ◌∙◌, subst, arith}
 use Rattle.pacer.specs.Fixing.{no_link}
 use Rattle.pacer.specs.Index.{WaitsSoFar}
 use Rattle.pacer.proofs.Beginning.{waits_first, waits_few, waits_most, waits_least}

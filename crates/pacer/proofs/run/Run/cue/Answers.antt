@@ -1,4 +1,4 @@
-use Rattle.std.proofs.Common.{sym, refl, subst, rules}
+use Rattle.std.proofs.Common.{sym, subst, rules}
 use Rattle.pacer.specs.declared.state.State.{State}
 use Rattle.pacer.specs.Index.{Indexed}
 use Rattle.pacer.proofs.Indexing.{indexed_plain, indexed_cued}

@@ -1,7 +1,5 @@
-use Rattle.std.proofs.Common.{◌≡◌, ℕ, ◌-◌, ◌≤◌, List, length, take, sym, refl, ap, ◌∙◌, subst, inl, inr, arith, length-take}
-use Rattle.network.specs.declared.tables.GroupEntry.{GroupEntry}
-use Rattle.network.specs.declared.tables.Link.{Link}
-use Rattle.pacer.specs.Opening.{Fit, LeadsItself, EntriesFit, LinksFit, Unfit}
+use Rattle.std.proofs.Common.{◌≡◌, ℕ, ◌-◌, take, refl, ap, subst, inl, inr, arith, length-take}
+use Rattle.pacer.specs.Opening.{Fit, LeadsItself, EntriesFit, LinksFit}
 use Rattle.pacer.proofs.Beginning.{begins_indexed}
 use Rattle.pacer.proofs.run.Run.open.Goals as goal
 
