@@ -10,7 +10,7 @@ use Rattle.pacer.specs.declared.run.Run.{Run}
 use Rattle.pacer.specs.declared.state.State.{State}
 use Rattle.pacer.specs.Fixing.{fixed, no_link, span_at, spanned}
 use Rattle.pacer.specs.Index.{Ready, count, least_onto}
-use Rattle.pacer.specs.Refusals.{given, taken}
+use Rattle.pacer.specs.Refusals.{Given, Taken}
 use Rattle.pacer.specs.States.{with_cue}
 
 -- a step leads itself, at offset 0
@@ -67,4 +67,4 @@ Unfit n m es ks = (length es < n) ⊎ ((length ks < m) ⊎ (Fit n (take n es) (t
 
 -- what opening n steps and m links is answered with
 abbrev pub OpenAnswer : ℕ → ℕ → List GroupEntry → List Link → Option ℕ → Type 0
-OpenAnswer n m es ks = given 7 ((n ≡ 0) ⊎ (most_steps < n)) (given 8 (Unfit n m es ks) taken)
+OpenAnswer n m es ks = Given 7 ((n ≡ 0) ⊎ (most_steps < n)) (Given 8 (Unfit n m es ks) Taken)

@@ -36,9 +36,9 @@ refused_with number (Ok x) = None
 refused_with number (Err e) = Some (number e)
 
 -- the number is given where the test holds; where it does not, the rest decides
-abbrev pub given : ℕ → Type 0 → (Option ℕ → Type 0) → Option ℕ → Type 0
-given number Test rest answer = (Test × (answer ≡ Some number)) ⊎ ((Test → ⊥) × rest answer)
+abbrev pub Given : ℕ → Type 0 → (Option ℕ → Type 0) → Option ℕ → Type 0
+Given number Test rest answer = (Test × (answer ≡ Some number)) ⊎ ((Test → ⊥) × rest answer)
 
 -- no test is left
-abbrev pub taken : Option ℕ → Type 0
-taken answer = answer ≡ None
+abbrev pub Taken : Option ℕ → Type 0
+Taken answer = answer ≡ None

@@ -6,7 +6,7 @@ use Rattle.pacer.specs.declared.group.Call.TheVariants.{Cue}
 use Rattle.pacer.specs.declared.group.Group.{Group}
 use Rattle.pacer.specs.declared.state.State.{State}
 use Rattle.pacer.specs.Groups.{is_open, upper_of, earliest_for}
-use Rattle.pacer.specs.Refusals.{given, taken}
+use Rattle.pacer.specs.Refusals.{Given, Taken}
 use Rattle.pacer.specs.States.{group_at, cue_at, waits_at}
 
 -- the group that a step belongs to, as it stands
@@ -42,18 +42,18 @@ TooEarly es s step t = t < earliest_for (group_of es s step) Cue (entry_of es st
 -- what a cue of a step at t is answered with
 abbrev pub CueAnswer : ℕ → List GroupEntry → State → ℕ → ℕ → Option ℕ → Type 0
 CueAnswer n es s step t =
-    given 10 (n ≤ step)
-    (given 11 (cue_at s step ≢ None)
-    (given 12 (t < s.now)
-    (given 13 (Overdue n es s t)
-    (given 14 (NotYet es s step)
-    (given 15 (TooEarly es s step t)
-    taken)))))
+    Given 10 (n ≤ step)
+    (Given 11 (cue_at s step ≢ None)
+    (Given 12 (t < s.now)
+    (Given 13 (Overdue n es s t)
+    (Given 14 (NotYet es s step)
+    (Given 15 (TooEarly es s step t)
+    Taken)))))
 
 -- what a wait until t is answered with
 abbrev pub WaitAnswer : ℕ → List GroupEntry → State → ℕ → Option ℕ → Type 0
 WaitAnswer n es s t =
-    given 16 (SomeUncued n s → ⊥)
-    (given 12 (t < s.now)
-    (given 13 (Overdue n es s t)
-    taken))
+    Given 16 (SomeUncued n s → ⊥)
+    (Given 12 (t < s.now)
+    (Given 13 (Overdue n es s t)
+    Taken))
