@@ -5,19 +5,23 @@ use bounds::limits::MOST_ITEMS;
 use card::layout::{HEADER_BYTES, RECORD_BYTES};
 use listing::{Listing, list_card};
 use std::io;
-use std::io::{BufWriter, ErrorKind, Read, Write};
+use std::io::{BufWriter, Read, Write};
+use std::process::ExitCode;
 
 // One byte more than the longest card has: a longer input is cut there, and then refused.
 const MOST_BYTES: usize = HEADER_BYTES + RECORD_BYTES * MOST_ITEMS as usize + 1;
 
-fn main(rt: HostRuntime) -> io::Result<()> {
+fn main(rt: HostRuntime) -> io::Result<ExitCode> {
     let mut bytes = Vec::new(rt.alloc());
     rt.stdin().take(MOST_BYTES as u64).read_to_end(&mut bytes)?;
     match list_card(rt.alloc(), &bytes)? {
-        Listing::Listed(text) => print(&rt, &text),
+        Listing::Listed(text) => {
+            print(&rt, &text)?;
+            Ok(ExitCode::SUCCESS)
+        }
         Listing::Refused(line) => {
             print(&rt, &line)?;
-            Err(ErrorKind::InvalidData.into())
+            Ok(ExitCode::FAILURE)
         }
     }
 }

@@ -8,7 +8,8 @@ use card::write_card;
 use jobtext::job::MOST_BYTES;
 use jobtext::{Job, TextError, read_job};
 use std::io;
-use std::io::{BufWriter, ErrorKind, Read, Write};
+use std::io::{BufWriter, Read, Write};
+use std::process::ExitCode;
 
 // The bytes of the longest card.
 const MOST_CARD_BYTES: usize = HEADER_BYTES + RECORD_BYTES * MOST_ITEMS as usize;
@@ -16,26 +17,29 @@ const MOST_CARD_BYTES: usize = HEADER_BYTES + RECORD_BYTES * MOST_ITEMS as usize
 // One byte more than the longest text has: a longer input is cut there, and then refused.
 const MOST_INPUT: u64 = MOST_BYTES as u64 + 1;
 
-fn main(rt: HostRuntime) -> io::Result<()> {
+fn main(rt: HostRuntime) -> io::Result<ExitCode> {
     let mut text = Vec::new(rt.alloc());
     rt.stdin().take(MOST_INPUT).read_to_end(&mut text)?;
     match read_job(rt.alloc(), &text) {
         Ok(job) => make_card(&rt, &job),
         Err(error) => {
             tell_error(&rt, error)?;
-            Err(ErrorKind::InvalidData.into())
+            Ok(ExitCode::FAILURE)
         }
     }
 }
 
 // Writes the card of a job to standard output, or tells its refusal.
-fn make_card(rt: &HostRuntime, job: &Job) -> io::Result<()> {
+fn make_card(rt: &HostRuntime, job: &Job) -> io::Result<ExitCode> {
     let mut bytes = [0u8; MOST_CARD_BYTES];
     match write_card(&Rows::new(job.steps, &job.rows), &mut bytes) {
-        Ok(size) => print(rt, &bytes[0..size]),
+        Ok(size) => {
+            print(rt, &bytes[0..size])?;
+            Ok(ExitCode::SUCCESS)
+        }
         Err(refusal) => {
             tell_refusal(rt, refusal.number(), refusal.place())?;
-            Err(ErrorKind::InvalidData.into())
+            Ok(ExitCode::FAILURE)
         }
     }
 }
