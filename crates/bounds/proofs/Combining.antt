@@ -4,7 +4,7 @@ use lib.ListN.{length-map}
 use Rattle.std.specs.Option.{ok_or}
 use Rattle.std.specs.List.{slice_get}
 use Rattle.std.proofs.lemmas.Option.{slice_get-get_or}
-use Rattle.bounds.specs.declared.item.Item.{Item}
+use Rattle.bounds.specs.Items.{Item}
 use Rattle.bounds.specs.declared.item.NoSuchPlace.{NoSuchPlace}
 use Rattle.bounds.specs.Limits.{most_items}
 use Rattle.bounds.specs.Meaning.{read_at, refused, counted}

@@ -1,15 +1,29 @@
 -- What is made from the proofs of tests does not depend on which proofs they are.
-use Rattle.std.proofs.Common.{◌≡◌, ℕ, Bool, true, false, ◌&&◌, ℤ, pos, ◌+ℤ◌, ◌-ℤ◌, Some, None, Ok, Err, Option, sym, refl, ap, ◌∙◌}
+use Rattle.std.proofs.Common.{◌≡◌, ℕ, Bool, true, false, ◌&&◌, ℤ, pos, neg_ℤ, ◌+ℤ◌, ◌-ℤ◌, ◌≤ℤ◌, int_le, Some, None, Ok, Err, Option, sym, refl, ap, ◌∙◌, rules}
 use mathlib.Core.Bool.{Bool-set}
-use Rattle.std.specs.Option.{option_map}
-use Rattle.std.proofs.lemmas.Bool.{both_ways, and_from, cond-true}
+use Rattle.std.specs.Option.{option_map, MatchOption, IsSomeAnd}
+use Rattle.std.proofs.lemmas.Bool.{both_ways, and_from, and_parts, cond-true}
 use Rattle.bounds.specs.declared.bound.Bound.{Bound}
 use Rattle.bounds.specs.declared.fault.Fault.TheVariants.{OutOfReach, NoEnd}
 use Rattle.bounds.specs.declared.row.Row.{Row}
 use Rattle.bounds.specs.DrawnIn.{raised, lowered, bound_drawn_in}
 use Rattle.bounds.specs.Loose.{tidy, end_given}
-use Rattle.bounds.specs.Reach.{has_end, ends_in_reach}
+use Rattle.bounds.specs.Limits.{horizon}
+use Rattle.bounds.specs.Reach.{has_end, end_in_reach, ends_in_reach}
 use Rattle.bounds.specs.Made.{where_true, bound_with, made_bound}
+
+-- what `map` answers, where each call answers what f does
+pub map_gives : {X Y : Type 0} (f : X → Y) (Post : X → Y → Type 0) (o : Option X) (r : Option Y)
+    → ((x : X) (y : Y) → o ≡ Some x → Post x y → y ≡ f x) → MatchOption o (r ≡ None) (λ x. IsSomeAnd r (Post x)) → r ≡ option_map f o
+map_gives f Post None r h m = m
+map_gives f Post (Some x) (Some y) h m = ap Some (h x y refl m)
+map_gives f Post (Some x) None h m = absurd m
+
+-- both parts of a test of an end that is present
+pub end_near : (end : Option ℤ) (x : ℤ) → end ≡ Some x → end_in_reach end ≡ true → (neg_ℤ (pos horizon) ≤ℤ x) × (x ≤ℤ pos horizon)
+end_near end x e h =
+    let both = and_parts (int_le (neg_ℤ (pos horizon)) x) (int_le x (pos horizon)) (ap end_in_reach (sym e) ∙ h) in
+    (search rules, search rules)
 
 where_true_is : {X : Type 0} (b : Bool) (f : b ≡ true → X) (x : X) (p : b ≡ true) → f p ≡ where_true b f x
 where_true_is true f x p = ap f (Bool-set true true p refl)

@@ -5,7 +5,7 @@ use Rattle.std.specs.List.{AllByRecursion, slice_get}
 use Rattle.std.proofs.lemmas.List.{drop_all, take_all}
 use Rattle.std.proofs.lemmas.Option.{slice_get_past}
 use Rattle.std.proofs.lemmas.Bool.{cond-false, le-ltb, lt-ltb, cases_lt}
-use Rattle.bounds.specs.declared.item.Item.{Item}
+use Rattle.bounds.specs.Items.{Item}
 use Rattle.bounds.specs.declared.item.NoSuchPlace.{NoSuchPlace}
 use Rattle.bounds.specs.Limits.{most_items}
 use Rattle.bounds.specs.Meaning.{read_at, counted, refused, Lawful, Below}

@@ -3,6 +3,7 @@ pub mod Reach
 pub mod Loose
 pub mod Made
 pub mod Faults
+pub mod Items
 pub mod Rows
 pub mod Meaning
 pub mod Spoiled

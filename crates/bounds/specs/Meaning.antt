@@ -1,16 +1,15 @@
 -- What a source means: a number of steps and a list of items, under a law.
-use Rattle.std.specs.Prelude.{ℕ, ◌+◌, ◌^◌, ◌<◌, min, cond, List, length, Err, Result, nat_lt}
+use Rattle.std.specs.Prelude.{ℕ, ◌+◌, ◌^◌, ◌<◌, min, cond, List, length, Ok, Err, Result, nat_lt}
 use Rattle.std.specs.Option.{ok_or}
 use Rattle.std.specs.List.{AllByRecursion, slice_get}
-use Rattle.bounds.specs.declared.item.Item.{Item}
-use Rattle.bounds.specs.declared.item.Item.TheVariants.{Bound, Spoiled}
+use Rattle.bounds.specs.Items.{Item}
 use Rattle.bounds.specs.declared.item.NoSuchPlace.{NoSuchPlace}
 use Rattle.bounds.specs.Limits.{most_items}
 
 -- a bound names two steps below n
 abbrev pub Below : ℕ → Item → Type 0
-Below n (Bound b) = (b.from < n) × (b.to < n)
-Below n (Spoiled f) = Unit {0}
+Below n (Ok b) = (b.from < n) × (b.to < n)
+Below n (Err f) = Unit {0}
 
 -- n is at most 65,535, and each bound of the list names two steps below it
 pub record Lawful (n : ℕ) (xs : List Item) : Type 0 where

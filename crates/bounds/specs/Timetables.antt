@@ -1,21 +1,20 @@
 -- The timetables of a source, and the distance from one step to another.
-use Rattle.std.specs.Prelude.{◌≡◌, ℕ, ◌<◌, ℤ, pos, ◌-ℤ◌, ◌≤ℤ◌, IfSome}
+use Rattle.std.specs.Prelude.{◌≡◌, ℕ, ◌<◌, ℤ, pos, ◌-ℤ◌, ◌≤ℤ◌, Ok, Err, IfSome}
 use Rattle.std.specs.List.{AllByRecursion}
-use Rattle.bounds.specs.declared.bound.Bound.{Bound as BoundT}
-use Rattle.bounds.specs.declared.item.Item.{Item}
-use Rattle.bounds.specs.declared.item.Item.TheVariants.{Bound, Spoiled}
+use Rattle.bounds.specs.declared.bound.Bound.{Bound}
+use Rattle.bounds.specs.Items.{Item}
 use Rattle.bounds.specs.Limits.{horizon}
 use Rattle.bounds.specs.Meaning.{Meaning}
 
 -- the times t keep a bound: the gap between its steps is not below the lower end and not above the upper end, where each is present
-pub record KeepsBound (t : ℕ → ℤ) (b : BoundT) : Type 0 where
+pub record KeepsBound (t : ℕ → ℤ) (b : Bound) : Type 0 where
   pub lower : IfSome b.lower (λ l. l ≤ℤ (t b.to -ℤ t b.from))
   pub upper : IfSome b.upper (λ u. (t b.to -ℤ t b.from) ≤ℤ u)
 
 -- a spoiled item is no bound
 abbrev pub Keeps : (ℕ → ℤ) → Item → Type 0
-Keeps t (Bound b) = KeepsBound t b
-Keeps t (Spoiled f) = Unit {0}
+Keeps t (Ok b) = KeepsBound t b
+Keeps t (Err f) = Unit {0}
 
 -- the first n times lie from 0 to 1,000,000
 abbrev pub InTime : ℕ → (ℕ → ℤ) → Type 0

@@ -1,6 +1,8 @@
 // Why an item of a source is spoiled.
-ghost use Rattle.std.specs.Prelude.{◌≡◌};
 ghost use Rattle.bounds.specs.Faults.{fault_number};
+ghost use Rattle.bounds.specs.Told.{numbered};
+
+use crate::told::{Reason, Told};
 
 /// Why a row or a card's record makes no bound.
 #[derive(Clone, Copy, PartialEq, Eq, Debug)]
@@ -13,15 +15,14 @@ pub enum Fault {
     NoEnd,
 }
 
-impl Fault {
-    /// The number of the refusal.
-    pub fn number(&self) -> u8
-        ensures { result ≡ fault_number self.now }
-    {
-        match self {
+impl Reason for Fault {
+    ghost told = { λ fault. numbered (fault_number fault) };
+
+    fn told(&self) -> Told {
+        Told::of(match self {
             Fault::NoSuchStep => 3,
             Fault::OutOfReach => 4,
             Fault::NoEnd => 5,
-        }
+        })
     }
 }

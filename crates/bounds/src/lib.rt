@@ -12,10 +12,11 @@ pub mod pair;
 pub mod row;
 pub mod scan;
 pub mod source;
+pub mod told;
 
 pub use bound::Bound;
 pub use fault::Fault;
-pub use item::{Item, NoSuchPlace};
+pub use item::{Item, NoSuchPlace, drawn_in};
 pub use joined::Joined;
 pub use list::Rows;
 pub use margin::Margin;
@@ -23,3 +24,4 @@ pub use pair::first_spoiled_of_pair;
 pub use row::{LooseEnd, Row};
 pub use scan::{SpoiledItem, beyond_limits, first_spoiled};
 pub use source::Source;
+pub use told::{Reason, Told};

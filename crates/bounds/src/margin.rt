@@ -2,7 +2,7 @@
 ghost use Rattle.std.specs.Prelude.{◌≡◌};
 ghost use Rattle.bounds.specs.Margin.{margin_meaning};
 
-use crate::item::{Item, NoSuchPlace};
+use crate::item::{Item, NoSuchPlace, drawn_in};
 use crate::source::Source;
 
 /// A source over another: each bound is drawn in by so many seconds at each end.
@@ -34,6 +34,6 @@ impl<S: Source> Source for Margin<S> {
 
     fn item(&self, place: usize) -> Result<Item, NoSuchPlace> {
         let item = self.inner.item(place)?;
-        Ok(item.drawn_in(self.seconds))
+        Ok(drawn_in(item, self.seconds))
     }
 }

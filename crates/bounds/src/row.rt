@@ -2,11 +2,11 @@
 ghost use Rattle.std.specs.Prelude.{◌≡◌};
 ghost use Rattle.bounds.specs.Loose.{end_given, tidy};
 
-/// One end as it was given: whether it is present, and its value.
+/// One end as it was given: present, or absent with the value that stands in its place.
 #[derive(Clone, Copy, PartialEq, Eq, Debug)]
-pub struct LooseEnd {
-    pub present: bool,
-    pub value: i32,
+pub enum LooseEnd {
+    Present(i32),
+    Absent(i32),
 }
 
 impl LooseEnd {
@@ -14,14 +14,20 @@ impl LooseEnd {
     pub fn is_tidy(&self) -> bool
         ensures { result ≡ tidy self.now }
     {
-        self.present || self.value == 0
+        match *self {
+            LooseEnd::Present(_) => true,
+            LooseEnd::Absent(value) => value == 0,
+        }
     }
 
     /// The end, if it is present.
     pub fn end(&self) -> Option<i32>
         ensures { result ≡ end_given self.now }
     {
-        if self.present { Some(self.value) } else { None }
+        match *self {
+            LooseEnd::Present(value) => Some(value),
+            LooseEnd::Absent(_) => None,
+        }
     }
 }
 

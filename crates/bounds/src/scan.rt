@@ -1,18 +1,29 @@
 // What is asked of any source before it is read as a whole.
 ghost use Rattle.std.specs.Prelude.{◌≡◌};
 ghost use Rattle.bounds.specs.Spoiled.{first_spoiled, readable};
-ghost use Rattle.bounds.specs.Told.{beyond_limits};
+ghost use Rattle.bounds.specs.Told.{beyond_limits, told_spoiled};
 
 use crate::fault::Fault;
-use crate::item::Item;
 use crate::limits::{MOST_ITEMS, MOST_STEPS};
 use crate::source::Source;
+use crate::told::{Reason, Told};
 
 /// A spoiled item: its place in the list, and what is wrong with it.
 #[derive(Clone, Copy, PartialEq, Eq, Debug)]
 pub struct SpoiledItem {
     pub place: usize,
     pub fault: Fault,
+}
+
+impl Reason for SpoiledItem {
+    ghost told = { told_spoiled };
+
+    fn told(&self) -> Told {
+        Told {
+            number: self.fault.number(),
+            place: Some(self.place),
+        }
+    }
 }
 
 /// Whether a source has no step, or more steps or items than are compiled.
@@ -28,10 +39,7 @@ pub fn first_spoiled<S: Source>(source: &S) -> Option<SpoiledItem>
     ensures { result ≡ first_spoiled 0 (readable (S.meaning source.now).items) }
 {
     for place in 0..MOST_ITEMS as usize {
-        let Ok(item) = source.item(place) else {
-            return None;
-        };
-        if let Item::Spoiled(fault) = item {
+        if let Err(fault) = source.item(place).ok()? {
             return Some(SpoiledItem { place, fault });
         }
     }

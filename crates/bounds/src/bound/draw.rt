@@ -1,7 +1,6 @@
 // How a bound is drawn in by a margin.
 ghost use Rattle.std.specs.Prelude.{◌≡◌, true};
-ghost use Rattle.bounds.specs.DrawnIn.{bound_drawn_in, lowered, raised};
-ghost use Rattle.bounds.specs.Reach.{end_in_reach};
+ghost use Rattle.bounds.specs.DrawnIn.{bound_drawn_in};
 
 use super::Bound;
 use super::make::in_reach;
@@ -12,8 +11,8 @@ impl Bound {
     pub fn drawn_in(&self, seconds: u8) -> Result<Bound, Fault>
         ensures { result ≡ bound_drawn_in seconds self.now }
     {
-        let lower = raised(self.lower, seconds);
-        let upper = lowered(self.upper, seconds);
+        let lower = self.lower.map(|end| end + i32::from(seconds));
+        let upper = self.upper.map(|end| end - i32::from(seconds));
         if !in_reach(lower, upper) {
             return Err(Fault::OutOfReach);
         }
@@ -23,27 +22,5 @@ impl Bound {
             lower,
             upper,
         })
-    }
-}
-
-// An end in reach, if it is present, and so many seconds more.
-fn raised(end: Option<i32>, seconds: u8) -> Option<i32>
-    requires { end_in_reach end ≡ true }
-    ensures { result ≡ raised seconds end }
-{
-    match end {
-        Some(value) => Some(value + i32::from(seconds)),
-        None => None,
-    }
-}
-
-// An end in reach, if it is present, and so many seconds less.
-fn lowered(end: Option<i32>, seconds: u8) -> Option<i32>
-    requires { end_in_reach end ≡ true }
-    ensures { result ≡ lowered seconds end }
-{
-    match end {
-        Some(value) => Some(value - i32::from(seconds)),
-        None => None,
     }
 }

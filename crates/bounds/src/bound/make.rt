@@ -79,8 +79,5 @@ pub(super) fn in_reach(lower: Option<i32>, upper: Option<i32>) -> bool
 fn end_in_reach(end: Option<i32>) -> bool
     ensures { result ≡ end_in_reach end }
 {
-    match end {
-        Some(seconds) => -HORIZON <= seconds && seconds <= HORIZON,
-        None => true,
-    }
+    end.is_none_or(|seconds| -HORIZON <= seconds && seconds <= HORIZON)
 }

@@ -29,10 +29,10 @@ impl<'a> Source for Rows<'a> {
     }
 
     fn item(&self, place: usize) -> Result<Item, NoSuchPlace> {
-        if place < MOST_ITEMS as usize && place < self.rows.len() {
-            Ok(Item::of_row(&self.rows[place], self.steps))
-        } else {
-            Err(NoSuchPlace)
+        if place >= MOST_ITEMS as usize {
+            return Err(NoSuchPlace);
         }
+        let row = self.rows.get(place).ok_or(NoSuchPlace)?;
+        Ok(row.item(self.steps))
     }
 }
