@@ -10,7 +10,8 @@ use Rattle.bounds.specs.Meaning.{Meaning}
 use Rattle.bounds.specs.RowList.{rows_meaning}
 use Rattle.bounds.specs.Rows.{row_item}
 use Rattle.bounds.specs.Spoiled.{first_spoiled}
-use Rattle.bounds.specs.Told.{Told, told_spoiled, beyond_limits}
+use Rattle.bounds.specs.declared.told.Told.{Told}
+use Rattle.bounds.specs.Told.{told_spoiled, beyond_limits}
 use Rattle.bounds.specs.declared.row.Row.{Row}
 use Rattle.bounds.specs.declared.scan.SpoiledItem.{SpoiledItem}
 use Rattle.network.specs.Compiled as network

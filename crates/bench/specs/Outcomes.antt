@@ -3,7 +3,7 @@ use Rattle.std.specs.Prelude.{◌≡◌, ℕ, ◌^◌, ◌<◌, cond, ◌⊎◌,
 use Rattle.bounds.specs.Meaning.{Meaning}
 use Rattle.bounds.specs.RowList.{rows_meaning}
 use Rattle.bounds.specs.Timetables.{Feasible}
-use Rattle.bounds.specs.Told.{Told}
+use Rattle.bounds.specs.declared.told.Told.{Told}
 use Rattle.network.specs.Compiled.{TablesOf, leaves_distances}
 use Rattle.network.specs.Grid.{zeroed}
 use Rattle.network.specs.Refusals.{told}

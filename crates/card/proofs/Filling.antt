@@ -5,9 +5,8 @@ use Rattle.std.specs.List.{slice_get}
 use Rattle.std.proofs.lemmas.Bool.{cases_eq}
 use Rattle.bits.specs.Wrote.{KeptOutside}
 use Rattle.bits.proofs.Writes.{kept_none, kept_within}
-use Rattle.bounds.specs.declared.bound.Bound.{Bound as BoundT}
-use Rattle.bounds.specs.declared.item.Item.{Item}
-use Rattle.bounds.specs.declared.item.Item.TheVariants.{Bound}
+use Rattle.bounds.specs.declared.bound.Bound.{Bound}
+use Rattle.bounds.specs.Items.{Item}
 use Rattle.bounds.specs.Limits.{most_items}
 use Rattle.bounds.specs.Meaning.{read_at, refused}
 use Rattle.bounds.proofs.Reading.{read_below}
@@ -24,7 +23,7 @@ nth_within (y ∷ ys) (suc j) x e = omega (arith, nth_within ys j x e)
 -- the first k records are written
 pub record Filling (items : List Item) (xs ys : List ℕ) (k : ℕ) : Type 0 where
   pub kept : KeptOutside xs ys header_bits (header_bits + record_bits * k)
-  pub records : (j : ℕ) (b : BoundT) → j < k → slice_get items j ≡ Some (Bound b) → row_at ys (header_bits + record_bits * j) ≡ bound_row b
+  pub records : (j : ℕ) (b : Bound) → j < k → slice_get items j ≡ Some (Ok b) → row_at ys (header_bits + record_bits * j) ≡ bound_row b
 
 pub filling_none : (items : List Item) (xs : List ℕ) → Filling items xs xs 0
 filling_none items xs = record { kept = kept_none xs header_bits (header_bits + record_bits * 0); records = λ j b l _. absurd (omega arith) }
@@ -32,7 +31,7 @@ filling_none items xs = record { kept = kept_none xs header_bits (header_bits + 
 -- one record more
 pub filling_more : (items : List Item) (xs ys zs : List ℕ) (k : ℕ) → k < most_items → Filling items xs ys k
     → KeptOutside ys zs (header_bits + record_bits * k) (header_bits + record_bits * k + record_bits)
-    → ((b : BoundT) → Ok (Bound b) ≡ read_at items k → row_at zs (header_bits + record_bits * k) ≡ bound_row b)
+    → ((b : Bound) → Ok (Ok b) ≡ read_at items k → row_at zs (header_bits + record_bits * k) ≡ bound_row b)
     → Filling items xs zs (k + 1)
 filling_more items xs ys zs k l h w r = record {
   kept = kept_within xs ys zs header_bits (header_bits + record_bits * k) (header_bits + record_bits * k) (header_bits + record_bits * k + record_bits) header_bits (header_bits + record_bits * (k + 1)) (omega arith) (omega arith) (omega arith) (omega arith) h.kept w;
@@ -44,4 +43,4 @@ filling_more items xs ys zs k l h w r = record {
 
 -- all of them
 pub filling_all : (items : List Item) (xs ys : List ℕ) (k : ℕ) → k ≡ length items → Filling items xs ys k → HasRecords ys items
-filling_all items xs ys k e h = λ j b f. h.records j b (omega (arith, nth_within items j (Bound b) f)) f
+filling_all items xs ys k e h = λ j b f. h.records j b (omega (arith, nth_within items j (Ok b) f)) f

@@ -1,5 +1,5 @@
 -- A header and a record, one field after another.
-use Rattle.std.proofs.Common.{◌≡◌, ℕ, ◌+◌, ◌-◌, ◌*◌, ◌<◌, ◌≤◌, true, eqb, ◌⊎◌, List, length, ℤ, pos, negsuc, is_some, Some, None, Option, unwrap_or, ap, ◌∙◌, inl, inr, arith}
+use Rattle.std.proofs.Common.{◌≡◌, ℕ, ◌+◌, ◌-◌, ◌*◌, ◌<◌, ◌≤◌, true, Bool, cond, eqb, ◌⊎◌, List, length, ℤ, pos, negsuc, is_some, Some, None, Option, unwrap_or, ap, ◌∙◌, inl, inr, arith}
 use mir.Val.{bool_byte}
 use Rattle.std.proofs.lemmas.Int.{ints}
 use Rattle.std.proofs.lemmas.Bool.{and_parts}
@@ -8,12 +8,13 @@ use Rattle.bits.specs.Signed.{signed, unsigned, InRange}
 use Rattle.bits.specs.Wrote.{KeptOutside, Wrote}
 use Rattle.bits.proofs.Signs.{signed_unsigned, unsigned_lt}
 use Rattle.bits.proofs.Writes.{kept_none, kept_within, field_kept, field_written}
-use Rattle.bounds.specs.declared.bound.Bound.{Bound as BoundT}
+use Rattle.bounds.specs.declared.bound.Bound.{Bound}
+use Rattle.bounds.specs.declared.row.LooseEnd.TheVariants.{Present, Absent}
 use Rattle.bounds.specs.Limits.{most_steps, most_items}
 use Rattle.bounds.specs.Reach.{end_in_reach}
 use Rattle.card.specs.declared.layout.Field.{Field}
 use Rattle.card.specs.Layout.{edition_field, steps_field, count_field, spare_field, from_field, to_field, lower_present_field, upper_present_field, lower_field, upper_field, edition_number, header_start, header_bits, header_bytes, record_bits, row_at}
-use Rattle.card.specs.Records.{HasHeader, bound_row}
+use Rattle.card.specs.Records.{HasHeader, loose_end, bound_row}
 
 -- the write of a field in the part that begins at s
 abbrev pub Put : List ℕ → List ℕ → ℕ → Field → ℕ → Type 0
@@ -56,11 +57,16 @@ mark_back : (end : Option ℤ) (x v : ℕ) → x ≡ v → v ≡ bool_byte (is_s
 mark_back None x v e f = ap (λ n. eqb n 1) (e ∙ f)
 mark_back (Some z) x v e f = ap (λ n. eqb n 1) (e ∙ f)
 
+-- and both together are the end
+end_put : (end : Option ℤ) (mark : Bool) (z : ℤ) → mark ≡ is_some end → z ≡ unwrap_or end (pos 0) → cond mark (Present z) (Absent z) ≡ loose_end end
+end_put None mark z e f = rw (e, f)
+end_put (Some x) mark z e f = rw (e, f)
+
 mark_lt : (end : Option ℤ) (v : ℕ) → v ≡ bool_byte (is_some end) → v < 2
 mark_lt None v e = omega (arith, e)
 mark_lt (Some z) v e = omega (arith, e)
 
-module _ (x0 x1 x2 x3 x4 x5 x6 : List ℕ) (s : ℕ) (b : BoundT) (m3 m4 : ℕ) (lower upper : ℤ) (room : s + record_bits ≤ 8 * length x0) (from : b.from < most_steps) (to : b.to < most_steps)
+module _ (x0 x1 x2 x3 x4 x5 x6 : List ℕ) (s : ℕ) (b : Bound) (m3 m4 : ℕ) (lower upper : ℤ) (room : s + record_bits ≤ 8 * length x0) (from : b.from < most_steps) (to : b.to < most_steps)
     (e3 : m3 ≡ bool_byte (is_some b.lower)) (e4 : m4 ≡ bool_byte (is_some b.upper)) (e5 : lower ≡ unwrap_or b.lower (pos 0)) (e6 : upper ≡ unwrap_or b.upper (pos 0))
     (w1 : Put x0 x1 s from_field b.from) (w2 : Put x1 x2 s to_field b.to) (w3 : Put x2 x3 s lower_present_field m3) (w4 : Put x3 x4 s upper_present_field m4)
     (w5 : Put x4 x5 s lower_field (unsigned 21 lower)) (w6 : Put x5 x6 s upper_field (unsigned 21 upper)) where
@@ -99,7 +105,9 @@ module _ (x0 x1 x2 x3 x4 x5 x6 : List ℕ) (s : ℕ) (b : BoundT) (m3 m4 : ℕ) 
       let g4 : eqb (field x6 (s + 13) 1) 1 ≡ is_some b.upper = mark_back b.upper _ m4 f4 e4 in
       let g5 : signed 21 (field x6 (s + 14) 21) ≡ unwrap_or b.lower (pos 0) = ap (signed 21) (f5 ∙ ap (unsigned 21) e5) ∙ signed_unsigned 21 (unwrap_or b.lower (pos 0)) (end_fits b.lower near.0) in
       let g6 : signed 21 (field x6 (s + 35) 21) ≡ unwrap_or b.upper (pos 0) = ap (signed 21) (f6 ∙ ap (unsigned 21) e6) ∙ signed_unsigned 21 (unwrap_or b.upper (pos 0)) (end_fits b.upper near.1) in
-      rw (f1, f2, g3, g4, g5, g6)
+      let h5 = end_put b.lower _ _ g3 g5 in
+      let h6 = end_put b.upper _ _ g4 g6 in
+      rw (f1, f2, h5, h6)
 
 -- a record that lies before or behind a change is kept
 pub row_kept : (xs ys : List ℕ) (s e a : ℕ) → KeptOutside xs ys s e → (a + record_bits ≤ s) ⊎ (e ≤ a) → row_at ys a ≡ row_at xs a

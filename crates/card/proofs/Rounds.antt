@@ -1,13 +1,12 @@
 -- What was written opens as the card of the source.
-use Rattle.std.proofs.Common.{◌≡◌, ℕ, zero, suc, ◌+◌, ◌*◌, ◌≤◌, false, List, [], ◌∷◌, length, take, Some, None, sym, refl, ap, ◌∙◌, subst, inl, arith}
+use Rattle.std.proofs.Common.{◌≡◌, ℕ, zero, suc, ◌+◌, ◌*◌, ◌≤◌, false, List, [], ◌∷◌, length, take, Some, None, Ok, Err, sym, refl, ap, ◌∙◌, subst, inl, arith}
 use Rattle.std.specs.List.{AllByRecursion, slice_get}
 use Rattle.std.proofs.lemmas.List.{length-take-le}
 use Rattle.bits.specs.Field.{field}
 use Rattle.bits.specs.Wrote.{KeptOutside}
 use Rattle.bits.proofs.Bytes.{drop_kept, field_take}
 use Rattle.bits.proofs.Writes.{field_kept, kept_within}
-use Rattle.bounds.specs.declared.item.Item.{Item}
-use Rattle.bounds.specs.declared.item.Item.TheVariants.{Bound, Spoiled}
+use Rattle.bounds.specs.Items.{Item}
 use Rattle.bounds.specs.Meaning.{Meaning, Below}
 use Rattle.bounds.specs.Rows.{row_item}
 use Rattle.bounds.specs.Spoiled.{first_spoiled}
@@ -69,11 +68,11 @@ is_card m ys can room none header records =
     }
   where
     one : (k : ℕ) (x : Item) → slice_get m.items k ≡ Some x → steps_of (take (card_size m) ys) ≡ m.steps → Below m.steps x → item_at (take (card_size m) ys) (0 + k) ≡ x
-    one k (Spoiled f) e g below = absurd (no_spoiled 0 m.items none k f e)
-    one k (Bound b) e g below =
+    one k (Err f) e g below = absurd (no_spoiled 0 m.items none k f e)
+    one k (Ok b) e g below =
         let zs = take (card_size m) ys in
         let start : header_bits + record_bits * (0 + k) ≡ header_bits + record_bits * k = omega arith in
-        let l = nth_within m.items k (Bound b) e in
+        let l = nth_within m.items k (Ok b) e in
         ap (λ n. row_item n (row_at zs (header_bits + record_bits * (0 + k)))) g
         ∙ ap (λ i. row_item m.steps (row_at zs i)) start
         ∙ ap (row_item m.steps) (row_take (card_size m) ys (header_bits + record_bits * k) (omega arith) ∙ records k b e)

@@ -1,11 +1,10 @@
 -- What the tests of opening and of writing say.
-use Rattle.std.proofs.Common.{◌≡◌, ℕ, zero, suc, ◌+◌, ◌*◌, ◌≤◌, Bool, true, false, cond, not, ◌||◌, eqb, ltb, List, [], ◌∷◌, length, Some, None, Option, sym, refl, ap, ◌∙◌, arith}
+use Rattle.std.proofs.Common.{◌≡◌, ℕ, zero, suc, ◌+◌, ◌*◌, ◌≤◌, Bool, true, false, cond, not, ◌||◌, eqb, ltb, List, [], ◌∷◌, length, Some, None, Ok, Err, Option, sym, refl, ap, ◌∙◌, arith}
 use Rattle.std.specs.Option.{option_map}
 use Rattle.std.specs.List.{slice_get}
 use Rattle.std.proofs.lemmas.Bool.{or_parts, or_from, not-false, not_from_true, eqb-true, eq-eqb, ltb-false, le-ltb, cond-false}
 use Rattle.bounds.specs.declared.fault.Fault.{Fault}
-use Rattle.bounds.specs.declared.item.Item.{Item}
-use Rattle.bounds.specs.declared.item.Item.TheVariants.{Bound, Spoiled}
+use Rattle.bounds.specs.Items.{Item}
 use Rattle.bounds.specs.declared.scan.SpoiledItem.{SpoiledItem}
 use Rattle.bounds.specs.Limits.{most_items}
 use Rattle.bounds.specs.Meaning.{Meaning}
@@ -85,8 +84,8 @@ pub refused_none : (m : Meaning) (room : ℕ) → write_refusal m room ≡ None 
 refused_none m room e = mapped_none told_spoiled (first_spoiled 0 m.items) (refusal_ways (beyond_limits m) (ltb room (card_size m)) (told_write Limits) (told_write Room) (option_map told_spoiled (first_spoiled 0 m.items)) e).2
 
 -- so at no place
-pub no_spoiled : (i : ℕ) (xs : List Item) → first_spoiled i xs ≡ None → (k : ℕ) (f : Fault) → slice_get xs k ≡ Some (Spoiled f) → ⊥
+pub no_spoiled : (i : ℕ) (xs : List Item) → first_spoiled i xs ≡ None → (k : ℕ) (f : Fault) → slice_get xs k ≡ Some (Err f) → ⊥
 no_spoiled i [] e k f h = let q : ◌≡◌ {A = ℕ} 0 1 = cc in omega arith
-no_spoiled i (Bound b ∷ xs) e zero f h = let q : ◌≡◌ {A = ℕ} 0 1 = cc in omega arith
-no_spoiled i (Bound b ∷ xs) e (suc k) f h = no_spoiled (i + 1) xs e k f h
-no_spoiled i (Spoiled g ∷ xs) e k f h = let q : ◌≡◌ {A = ℕ} 0 1 = cc in omega arith
+no_spoiled i (Ok b ∷ xs) e zero f h = let q : ◌≡◌ {A = ℕ} 0 1 = cc in omega arith
+no_spoiled i (Ok b ∷ xs) e (suc k) f h = no_spoiled (i + 1) xs e k f h
+no_spoiled i (Err g ∷ xs) e k f h = let q : ◌≡◌ {A = ℕ} 0 1 = cc in omega arith

@@ -1,5 +1,5 @@
 -- A source without a spoiled item has one card.
-use Rattle.std.proofs.Common.{◌≡◌, ℕ, zero, suc, ◌+◌, ◌-◌, ◌*◌, ◌/◌, ◌<◌, ◌≤◌, eqb, List, length, get_or, take, drop, Some, None, sym, refl, ap, ◌∙◌, subst, inl, inr, arith, length-take}
+use Rattle.std.proofs.Common.{◌≡◌, ℕ, zero, suc, ◌+◌, ◌-◌, ◌*◌, ◌/◌, ◌<◌, ◌≤◌, Bool, true, false, cond, ℤ, eqb, List, length, get_or, take, drop, Some, None, Ok, Err, sym, refl, ap, ◌∙◌, subst, inl, inr, arith, length-take}
 use Rattle.std.specs.List.{slice_get}
 use Rattle.std.proofs.lemmas.List.{take_all, get_or-take, get_or_past}
 use Rattle.std.proofs.lemmas.Bool.{cases_lt}
@@ -8,16 +8,17 @@ use Rattle.bits.specs.Signed.{signed, unsigned}
 use Rattle.bits.proofs.Bytes.{bits_same_at, take_same}
 use Rattle.bits.proofs.Fields.{field_lt}
 use Rattle.bits.proofs.Signs.{unsigned_signed}
-use Rattle.bounds.specs.declared.item.Item.{Item}
-use Rattle.bounds.specs.declared.item.Item.TheVariants.{Bound, Spoiled}
+use Rattle.bounds.specs.Items.{Item}
 use Rattle.bounds.specs.Meaning.{Meaning}
 use Rattle.bounds.specs.Spoiled.{first_spoiled}
-use Rattle.card.specs.Layout.{header_bits, record_bits, steps_of, count_of, row_at, item_at}
+use Rattle.card.specs.Layout.{lower_present_field, upper_present_field, lower_field, upper_field, header_bits, record_bits, signed_at, is_set_at, steps_of, count_of, row_at, item_at}
 use Rattle.card.specs.Meaning.{card_meaning}
 use Rattle.card.specs.Opening.{open_refusal}
 use Rattle.card.specs.Rewriting.{opened_or, rewrite_refusal}
 use Rattle.card.specs.Writing.{IsCardOf, WroteCard, card_size, write_refusal}
 use Rattle.card.proofs.Listing.{length_items, nth_items}
+use Rattle.bounds.specs.declared.row.LooseEnd.{LooseEnd}
+use Rattle.bounds.specs.declared.row.LooseEnd.TheVariants.{Present, Absent}
 use Rattle.card.proofs.Rows.{row_item_back}
 use Rattle.card.proofs.Tests.{Opened, opened, no_spoiled, refused_none}
 
@@ -35,20 +36,29 @@ mark_same (suc zero) (suc (suc y)) p q e = absurd (omega arith)
 signed_same : (xs ys : List ℕ) (s w : ℕ) → signed w (field xs s w) ≡ signed w (field ys s w) → field xs s w ≡ field ys s w
 signed_same xs ys s w e = sym (unsigned_signed w (field xs s w) (field_lt xs s w)) ∙ ap (unsigned w) e ∙ unsigned_signed w (field ys s w) (field_lt ys s w)
 
+-- equal ends have the same mark and the same value
+ends_same : (b c : Bool) (y z : ℤ) → ◌≡◌ {A = LooseEnd} (cond b (Present y) (Absent y)) (cond c (Present z) (Absent z)) → (b ≡ c) × (y ≡ z)
+ends_same true true y z e = (refl, cc)
+ends_same false false y z e = (refl, cc)
+ends_same true false y z e = let q : ◌≡◌ {A = ℕ} 0 1 = cc in absurd (omega arith)
+ends_same false true y z e = let q : ◌≡◌ {A = ℕ} 0 1 = cc in absurd (omega arith)
+
 -- equal records have the same bits
 row_bits : (xs ys : List ℕ) (s : ℕ) → row_at xs s ≡ row_at ys s → (i : ℕ) → s ≤ i → i < s + record_bits → bit xs i ≡ bit ys i
 row_bits xs ys s e i l h =
+    let lower = ends_same (is_set_at xs s lower_present_field) (is_set_at ys s lower_present_field) (signed_at xs s lower_field) (signed_at ys s lower_field) (ap (λ r. r.lower) e) in
+    let upper = ends_same (is_set_at xs s upper_present_field) (is_set_at ys s upper_present_field) (signed_at xs s upper_field) (signed_at ys s upper_field) (ap (λ r. r.upper) e) in
     elim (cases_lt i (s + 6)) [
       | inl a ↦ bits_same_at xs ys (s + 0) 6 (ap (λ r. r.from) e) i (omega arith) (omega arith)
       | inr a ↦ elim (cases_lt i (s + 12)) [
         | inl b ↦ bits_same_at xs ys (s + 6) 6 (ap (λ r. r.to) e) i (omega arith) (omega arith)
         | inr b ↦ elim (cases_lt i (s + 13)) [
-          | inl c ↦ bits_same_at xs ys (s + 12) 1 (mark_same _ _ (field_lt xs (s + 12) 1) (field_lt ys (s + 12) 1) (ap (λ r. r.lower.present) e)) i (omega arith) (omega arith)
+          | inl c ↦ bits_same_at xs ys (s + 12) 1 (mark_same _ _ (field_lt xs (s + 12) 1) (field_lt ys (s + 12) 1) lower.0) i (omega arith) (omega arith)
           | inr c ↦ elim (cases_lt i (s + 14)) [
-            | inl d ↦ bits_same_at xs ys (s + 13) 1 (mark_same _ _ (field_lt xs (s + 13) 1) (field_lt ys (s + 13) 1) (ap (λ r. r.upper.present) e)) i (omega arith) (omega arith)
+            | inl d ↦ bits_same_at xs ys (s + 13) 1 (mark_same _ _ (field_lt xs (s + 13) 1) (field_lt ys (s + 13) 1) upper.0) i (omega arith) (omega arith)
             | inr d ↦ elim (cases_lt i (s + 35)) [
-              | inl f ↦ bits_same_at xs ys (s + 14) 21 (signed_same xs ys (s + 14) 21 (ap (λ r. r.lower.value) e)) i (omega arith) (omega arith)
-              | inr f ↦ bits_same_at xs ys (s + 35) 21 (signed_same xs ys (s + 35) 21 (ap (λ r. r.upper.value) e)) i (omega arith) (omega arith)
+              | inl f ↦ bits_same_at xs ys (s + 14) 21 (signed_same xs ys (s + 14) 21 lower.1) i (omega arith) (omega arith)
+              | inr f ↦ bits_same_at xs ys (s + 35) 21 (signed_same xs ys (s + 35) 21 upper.1) i (omega arith) (omega arith)
             ]
           ]
         ]
@@ -91,9 +101,9 @@ module _ (m : Meaning) (xs ys : List ℕ) (cx : IsCardOf m xs) (cy : IsCardOf m 
       at (item_at xs k) refl nx ny
     where
       at : (x : Item) → item_at xs k ≡ x → slice_get m.items k ≡ Some (item_at xs k) → slice_get m.items k ≡ Some (item_at ys k) → row_at xs (header_bits + record_bits * k) ≡ row_at ys (header_bits + record_bits * k)
-      at (Spoiled f) e nx ny = absurd (no_spoiled 0 m.items none k f (nx ∙ ap Some e))
-      at (Bound b) e nx ny =
-          let f : item_at ys k ≡ Bound b = same (item_at ys k) (item_at xs k) (sym ny ∙ nx) ∙ e in
+      at (Err f) e nx ny = absurd (no_spoiled 0 m.items none k f (nx ∙ ap Some e))
+      at (Ok b) e nx ny =
+          let f : item_at ys k ≡ Ok b = same (item_at ys k) (item_at xs k) (sym ny ∙ nx) ∙ e in
           row_item_back (steps_of xs) (row_at xs (header_bits + record_bits * k)) b e ∙ sym (row_item_back (steps_of ys) (row_at ys (header_bits + record_bits * k)) b f)
         where
           same : (x y : Item) → Some x ≡ Some y → x ≡ y

@@ -1,8 +1,10 @@
 -- Where the fields of a card stand, and what its bits say; src/layout.rt has the same places.
-use Rattle.std.specs.Prelude.{ℕ, zero, suc, ◌+◌, ◌*◌, ◌/◌, Bool, List, [], ◌∷◌, ℤ, ◌==◌}
+use Rattle.std.specs.Prelude.{ℕ, zero, suc, ◌+◌, ◌*◌, ◌/◌, Bool, cond, List, [], ◌∷◌, ℤ, ◌==◌}
 use Rattle.bits.specs.Field.{field}
 use Rattle.bits.specs.Signed.{signed}
-use Rattle.bounds.specs.declared.item.Item.{Item}
+use Rattle.bounds.specs.Items.{Item}
+use Rattle.bounds.specs.declared.row.LooseEnd.{LooseEnd}
+use Rattle.bounds.specs.declared.row.LooseEnd.TheVariants.{Present, Absent}
 use Rattle.bounds.specs.declared.row.Row.{Row}
 use Rattle.bounds.specs.Rows.{row_item}
 use Rattle.card.specs.declared.layout.Field.{Field}
@@ -83,6 +85,10 @@ signed_at xs s f = signed f.width (bits_at xs s f)
 abbrev pub is_set_at : List ℕ → ℕ → Field → Bool
 is_set_at xs s f = bits_at xs s f == 1
 
+-- one end of the record that begins at bit s: present where its mark is 1
+abbrev pub end_at : List ℕ → ℕ → Field → Field → LooseEnd
+end_at xs s mark end = cond (is_set_at xs s mark) (Present (signed_at xs s end)) (Absent (signed_at xs s end))
+
 -- the number of steps of a card
 abbrev pub steps_of : List ℕ → ℕ
 steps_of xs = bits_at xs header_start steps_field + 1
@@ -96,8 +102,8 @@ abbrev pub row_at : List ℕ → ℕ → Row
 row_at xs s = record {
   from = bits_at xs s from_field;
   to = bits_at xs s to_field;
-  lower = record { present = is_set_at xs s lower_present_field; value = signed_at xs s lower_field };
-  upper = record { present = is_set_at xs s upper_present_field; value = signed_at xs s upper_field };
+  lower = end_at xs s lower_present_field lower_field;
+  upper = end_at xs s upper_present_field upper_field;
 }
 
 -- the item that record k is

@@ -1,6 +1,7 @@
 -- The numbers of the refusals to open a card, and what the refusals to write one tell.
-use Rattle.std.specs.Prelude.{ℕ, None}
-use Rattle.bounds.specs.Told.{Told, told_spoiled}
+use Rattle.std.specs.Prelude.{ℕ}
+use Rattle.bounds.specs.declared.told.Told.{Told}
+use Rattle.bounds.specs.Told.{numbered, told_spoiled}
 use Rattle.card.specs.declared.refusal.CardRefusal.{CardRefusal}
 use Rattle.card.specs.declared.refusal.CardRefusal.TheVariants.{Length, Header}
 use Rattle.card.specs.declared.refusal.RewriteRefusal.{RewriteRefusal}
@@ -15,12 +16,12 @@ refusal_number Header = 2
 
 -- a refusal to open has no place
 abbrev pub told_open : ℕ → Told
-told_open number = record { number = number; place = None }
+told_open number = numbered number
 
 -- the number of each refusal to write, and the place of a spoiled item
 abbrev pub told_write : WriteRefusal → Told
-told_write Limits = record { number = 7; place = None }
-told_write Room = record { number = 8; place = None }
+told_write Limits = numbered 7
+told_write Room = numbered 8
 told_write (Spoiled item) = told_spoiled item
 
 -- a refusal to write a card again tells what the refusal to open or to write tells

@@ -1,6 +1,6 @@
 -- When a card is written again.
 use Rattle.std.specs.Prelude.{ℕ, List, Some, None, Option}
-use Rattle.bounds.specs.Told.{Told}
+use Rattle.bounds.specs.declared.told.Told.{Told}
 use Rattle.card.specs.Meaning.{card_meaning}
 use Rattle.card.specs.Opening.{open_refusal}
 use Rattle.card.specs.Refusals.{told_open}

@@ -3,7 +3,8 @@ use Rattle.std.specs.Prelude.{◌≡◌, ℕ, ◌+◌, ◌*◌, ◌≤◌, cond,
 use Rattle.std.specs.Option.{option_map}
 use Rattle.bounds.specs.Meaning.{Meaning}
 use Rattle.bounds.specs.Spoiled.{first_spoiled}
-use Rattle.bounds.specs.Told.{Told, told_spoiled, beyond_limits}
+use Rattle.bounds.specs.declared.told.Told.{Told}
+use Rattle.bounds.specs.Told.{told_spoiled, beyond_limits}
 use Rattle.card.specs.declared.refusal.WriteRefusal.TheVariants.{Limits, Room}
 use Rattle.card.specs.Layout.{header_bytes, record_bytes, steps_of, items_of}
 use Rattle.card.specs.Opening.{open_refusal}

@@ -1,7 +1,7 @@
 // A card over lent bytes: its header is tested when it is opened, and a record when its item is read.
 ghost use Rattle.std.specs.Prelude.{◌≡◌, ◌+◌, ◌^◌, ◌<◌, ◌≤◌, Some, None, MatchResult};
 ghost use Rattle.bits.specs.Limits.{most_bits, most_signed_bits};
-ghost use Rattle.card.specs.Layout.{bits_at, count_of, is_set_at, row_at, signed_at, steps_of};
+ghost use Rattle.card.specs.Layout.{bits_at, count_of, end_at, is_set_at, row_at, signed_at, steps_of};
 ghost use Rattle.card.specs.Meaning.{card_meaning};
 ghost use Rattle.card.specs.Opening.{open_refusal};
 ghost use Rattle.card.specs.Refusals.{refusal_number};
@@ -57,7 +57,7 @@ impl<'a> Source for Card<'a> {
     fn item(&self, place: usize) -> Result<Item, NoSuchPlace> {
         if place < MOST_ITEMS as usize && place < count_in(self.bytes) as usize {
             let row = row_in(self.bytes, HEADER_BITS + RECORD_BITS * place as u32);
-            Ok(Item::of_row(&row, steps_in(self.bytes)))
+            Ok(row.item(steps_in(self.bytes)))
         } else {
             Err(NoSuchPlace)
         }
@@ -86,14 +86,21 @@ fn row_in(bytes: &[u8], start: u32) -> Row
     Row {
         from: unsigned(bytes, start, FROM) as u16,
         to: unsigned(bytes, start, TO) as u16,
-        lower: LooseEnd {
-            present: is_set(bytes, start, LOWER_PRESENT),
-            value: signed(bytes, start, LOWER),
-        },
-        upper: LooseEnd {
-            present: is_set(bytes, start, UPPER_PRESENT),
-            value: signed(bytes, start, UPPER),
-        },
+        lower: end_in(bytes, start, LOWER_PRESENT, LOWER),
+        upper: end_in(bytes, start, UPPER_PRESENT, UPPER),
+    }
+}
+
+// One end of the record that begins at a bit.
+fn end_in(bytes: &[u8], start: u32, mark: Field, end: Field) -> LooseEnd
+    requires { (start < 2 ^ 31) × (mark.start < 2 ^ 31) × (mark.width ≤ most_bits) × (end.start < 2 ^ 31) × (end.width ≤ most_signed_bits) }
+    ensures { result ≡ end_at bytes.now start mark end }
+{
+    let seconds = signed(bytes, start, end);
+    if is_set(bytes, start, mark) {
+        LooseEnd::Present(seconds)
+    } else {
+        LooseEnd::Absent(seconds)
     }
 }
 

@@ -1,8 +1,10 @@
 // Why bytes do not open as a card, and why a source is not written as one.
 ghost use Rattle.std.specs.Prelude.{◌≡◌};
+ghost use Rattle.bounds.specs.Told.{numbered};
 ghost use Rattle.card.specs.Refusals.{refusal_number, told_rewrite, told_write};
+ghost use Rattle.card.specs.declared.refusal.RewriteRefusal.TheVariants.{Open, Write};
 
-use bounds::SpoiledItem;
+use bounds::{Reason, SpoiledItem, Told};
 
 /// Why bytes are no card.
 #[derive(Clone, Copy, PartialEq, Eq, Debug)]
@@ -13,15 +15,14 @@ pub enum CardRefusal {
     Header,
 }
 
-impl CardRefusal {
-    /// The number of the refusal.
-    pub fn number(&self) -> u8
-        ensures { result ≡ refusal_number self.now }
-    {
-        match self {
+impl Reason for CardRefusal {
+    ghost told = { λ refusal. numbered (refusal_number refusal) };
+
+    fn told(&self) -> Told {
+        Told::of(match self {
             CardRefusal::Length => 1,
             CardRefusal::Header => 2,
-        }
+        })
     }
 }
 
@@ -36,25 +37,14 @@ pub enum WriteRefusal {
     Spoiled(SpoiledItem),
 }
 
-impl WriteRefusal {
-    /// The number of the refusal.
-    pub fn number(&self) -> u8
-        ensures { result ≡ (told_write self.now).number }
-    {
-        match self {
-            WriteRefusal::Limits => 7,
-            WriteRefusal::Room => 8,
-            WriteRefusal::Spoiled(item) => item.fault.number(),
-        }
-    }
+impl Reason for WriteRefusal {
+    ghost told = { told_write };
 
-    /// The place of the item that is spoiled.
-    pub fn place(&self) -> Option<usize>
-        ensures { result ≡ (told_write self.now).place }
-    {
+    fn told(&self) -> Told {
         match self {
-            WriteRefusal::Spoiled(item) => Some(item.place),
-            WriteRefusal::Limits | WriteRefusal::Room => None,
+            WriteRefusal::Limits => Told::of(7),
+            WriteRefusal::Room => Told::of(8),
+            WriteRefusal::Spoiled(item) => item.told(),
         }
     }
 }
@@ -68,24 +58,29 @@ pub enum RewriteRefusal {
     Write(WriteRefusal),
 }
 
-impl RewriteRefusal {
-    /// The number of the refusal.
-    pub fn number(&self) -> u8
-        ensures { result ≡ (told_rewrite self.now).number }
-    {
+impl Reason for RewriteRefusal {
+    ghost told = { told_rewrite };
+
+    fn told(&self) -> Told {
         match self {
-            RewriteRefusal::Open(refusal) => refusal.number(),
-            RewriteRefusal::Write(refusal) => refusal.number(),
+            RewriteRefusal::Open(refusal) => refusal.told(),
+            RewriteRefusal::Write(refusal) => refusal.told(),
         }
     }
+}
 
-    /// The place of the item that is spoiled.
-    pub fn place(&self) -> Option<usize>
-        ensures { result ≡ (told_rewrite self.now).place }
-    {
-        match self {
-            RewriteRefusal::Write(refusal) => refusal.place(),
-            RewriteRefusal::Open(_) => None,
-        }
+impl From<CardRefusal> for RewriteRefusal {
+    ghost from_gives = { λ refusal r. r ≡ Open refusal };
+
+    fn from(refusal: CardRefusal) -> RewriteRefusal {
+        RewriteRefusal::Open(refusal)
+    }
+}
+
+impl From<WriteRefusal> for RewriteRefusal {
+    ghost from_gives = { λ refusal r. r ≡ Write refusal };
+
+    fn from(refusal: WriteRefusal) -> RewriteRefusal {
+        RewriteRefusal::Write(refusal)
     }
 }

@@ -11,11 +11,6 @@ use crate::writing::write_card;
 pub fn rewrite(bytes: &[u8], out: &mut [u8]) -> Result<usize, RewriteRefusal>
     ensures { MatchResult result (λ size. (rewrite_refusal bytes.now (length out.old) ≡ None) × (size ≡ length bytes.now) × (take size out.new ≡ bytes.now) × (drop size out.new ≡ drop size out.old)) (λ e. (rewrite_refusal bytes.now (length out.old) ≡ Some (told_rewrite e)) × (out.new ≡ out.old)) }
 {
-    match Card::open(bytes) {
-        Ok(card) => match write_card(&card, out) {
-            Ok(size) => Ok(size),
-            Err(refusal) => Err(RewriteRefusal::Write(refusal)),
-        },
-        Err(refusal) => Err(RewriteRefusal::Open(refusal)),
-    }
+    let card = Card::open(bytes)?;
+    Ok(write_card(&card, out)?)
 }

@@ -5,8 +5,7 @@ ghost use Rattle.bits.specs.Signed.{unsigned};
 ghost use Rattle.bits.specs.Wrote.{KeptOutside, Wrote};
 ghost use Rattle.bounds.specs.Limits.{most_items, most_steps};
 ghost use Rattle.bounds.specs.Meaning.{read_at};
-ghost use Rattle.bounds.specs.declared.bound.Bound.{Bound as BoundT};
-ghost use Rattle.bounds.specs.declared.item.Item.TheVariants.{Bound as BoundItem};
+ghost use Rattle.bounds.specs.declared.bound.Bound.{Bound};
 ghost use Rattle.card.specs.Layout.{header_bits, header_bytes, header_start, record_bits, row_at};
 ghost use Rattle.card.specs.Records.{HasHeader, HasRecords, bound_row};
 ghost use Rattle.card.specs.Refusals.{told_write};
@@ -18,7 +17,7 @@ use crate::layout::{
 };
 use crate::refusal::WriteRefusal;
 use bits::{write_field, write_signed};
-use bounds::{Bound, Item, Source, beyond_limits, first_spoiled};
+use bounds::{Bound, Source, beyond_limits, first_spoiled};
 
 /// Writes a source as a card, and answers how many bytes that took. Refuses beyond the limits, then without the room, then for the first spoiled item; then `out` stays as it was.
 pub fn write_card<S: Source>(source: &S, out: &mut [u8]) -> Result<usize, WriteRefusal>
@@ -60,12 +59,9 @@ fn put_record<S: Source>(source: &S, place: usize, out: &mut [u8])
     requires steps { (S.meaning source.now).steps ≤ most_steps }
     requires room { header_bits + record_bits * place + record_bits ≤ 8 * length out.old }
     ensures kept { KeptOutside out.old out.new (header_bits + record_bits * place) (header_bits + record_bits * place + record_bits) }
-    ensures holds { (b : BoundT) → Ok (BoundItem b) ≡ read_at (S.meaning source.now).items place → row_at out.new (header_bits + record_bits * place) ≡ bound_row b }
+    ensures holds { (b : Bound) → Ok (Ok b) ≡ read_at (S.meaning source.now).items place → row_at out.new (header_bits + record_bits * place) ≡ bound_row b }
 {
-    let Ok(item) = source.item(place) else {
-        return;
-    };
-    if let Item::Bound(bound) = item {
+    if let Ok(Ok(bound)) = source.item(place) {
         put_bound(out, HEADER_BITS + RECORD_BITS * place as u32, &bound);
     }
 }

@@ -6,7 +6,7 @@ use Rattle.bounds.specs.Meaning.{Meaning}
 use Rattle.card.specs.Meaning.{card_meaning}
 use Rattle.card.specs.Opening.{open_refusal}
 use Rattle.bounds.specs.Timetables.{Feasible}
-use Rattle.bounds.specs.Told.{Told}
+use Rattle.bounds.specs.declared.told.Told.{Told}
 use Rattle.network.specs.Compiled.{TablesOf}
 use Rattle.network.specs.Refusals.{told, early_refusal}
 use Rattle.network.specs.declared.compiler.Compiled.{Compiled}

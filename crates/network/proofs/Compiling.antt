@@ -10,7 +10,8 @@ use Rattle.bounds.specs.declared.scan.SpoiledItem.{SpoiledItem}
 use Rattle.bounds.specs.Meaning.{Meaning}
 use Rattle.bounds.specs.Spoiled.{first_spoiled, readable}
 use Rattle.bounds.specs.Timetables.{Feasible, Keeps}
-use Rattle.bounds.specs.Told.{Told, told_spoiled, beyond_limits}
+use Rattle.bounds.specs.declared.told.Told.{Told}
+use Rattle.bounds.specs.Told.{told_spoiled, beyond_limits}
 use Rattle.bounds.proofs.Reading.{readable_all}
 use Rattle.bounds.proofs.Within.{within}
 use Rattle.network.specs.declared.refusal.Refusal.{Refusal}

@@ -3,7 +3,7 @@ use Rattle.std.specs.Prelude.{◌≡◌, ℕ, ◌-◌, ◌*◌, ◌≤◌, Bool,
 use Rattle.std.specs.Option.{unwrap_or}
 use Rattle.bounds.specs.Meaning.{Meaning}
 use Rattle.bounds.specs.Timetables.{Feasible, Distances}
-use Rattle.bounds.specs.Told.{Told}
+use Rattle.bounds.specs.declared.told.Told.{Told}
 use Rattle.network.specs.declared.compiler.Compiled.{Compiled}
 use Rattle.network.specs.declared.refusal.Refusal.{Refusal}
 use Rattle.network.specs.declared.refusal.Refusal.TheVariants.{NoTimetable}

@@ -3,16 +3,17 @@ use Rattle.std.specs.Prelude.{ℕ, ◌-◌, ◌*◌, Bool, cond, ◌||◌, Some,
 use Rattle.std.specs.Option.{option_map}
 use Rattle.bounds.specs.Meaning.{Meaning}
 use Rattle.bounds.specs.Spoiled.{first_spoiled}
-use Rattle.bounds.specs.Told.{Told, told_spoiled, beyond_limits}
+use Rattle.bounds.specs.declared.told.Told.{Told}
+use Rattle.bounds.specs.Told.{numbered, told_spoiled, beyond_limits}
 use Rattle.network.specs.declared.refusal.Refusal.{Refusal}
 use Rattle.network.specs.declared.refusal.Refusal.TheVariants.{Limits, Tables, Spoiled, NoTimetable}
 
 -- the number of each refusal, and the place of a spoiled item
 abbrev pub told : Refusal → Told
-told Limits = record { number = 7; place = None }
-told Tables = record { number = 8; place = None }
+told Limits = numbered 7
+told Tables = numbered 8
 told (Spoiled item) = told_spoiled item
-told NoTimetable = record { number = 9; place = None }
+told NoTimetable = numbered 9
 
 -- fewer than n × n distances, n group entries or n × (n − 1) links
 abbrev pub too_short : ℕ → ℕ → ℕ → ℕ → Bool

@@ -3,7 +3,7 @@ ghost use Rattle.std.specs.Prelude.{◌≡◌};
 ghost use Rattle.network.specs.Refusals.{told};
 ghost use Rattle.network.specs.declared.refusal.Refusal.TheVariants.{Tables};
 
-use bounds::SpoiledItem;
+use bounds::{Reason, SpoiledItem, Told};
 use queue::Full;
 
 /// The reasons of `compile`, in the order in which it tests for them.
@@ -19,26 +19,15 @@ pub enum Refusal {
     NoTimetable,
 }
 
-impl Refusal {
-    /// The number of the refusal.
-    pub fn number(&self) -> u8
-        ensures { result ≡ (told self.now).number }
-    {
-        match self {
-            Refusal::Limits => 7,
-            Refusal::Tables => 8,
-            Refusal::Spoiled(item) => item.fault.number(),
-            Refusal::NoTimetable => 9,
-        }
-    }
+impl Reason for Refusal {
+    ghost told = { told };
 
-    /// The place of the item that is spoiled.
-    pub fn place(&self) -> Option<usize>
-        ensures { result ≡ (told self.now).place }
-    {
+    fn told(&self) -> Told {
         match self {
-            Refusal::Spoiled(item) => Some(item.place),
-            Refusal::Limits | Refusal::Tables | Refusal::NoTimetable => None,
+            Refusal::Limits => Told::of(7),
+            Refusal::Tables => Told::of(8),
+            Refusal::Spoiled(item) => item.told(),
+            Refusal::NoTimetable => Told::of(9),
         }
     }
 }

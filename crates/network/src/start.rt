@@ -11,7 +11,7 @@ ghost use Rattle.std.specs.List.{AllByRecursion};
 
 use crate::grid::lower;
 use bounds::limits::HORIZON;
-use bounds::{Bound, Item, Source};
+use bounds::{Bound, Source};
 
 /// Writes the gaps that are left by the range of times alone, then lowers them by every bound of the source.
 pub(crate) fn gather<S: Source>(source: &S, n: usize, table: &mut [i32])
@@ -27,7 +27,7 @@ pub(crate) fn gather<S: Source>(source: &S, n: usize, table: &mut [i32])
         let Ok(item) = source.item(place) else {
             return;
         };
-        if let Item::Bound(bound) = item {
+        if let Ok(bound) = item {
             apply(n, table, &bound);
         }
     }

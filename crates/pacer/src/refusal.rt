@@ -1,6 +1,8 @@
 // Why a call on a run is refused, or why no run is opened.
-ghost use Rattle.std.specs.Prelude.{◌≡◌};
+ghost use Rattle.bounds.specs.Told.{numbered};
 ghost use Rattle.pacer.specs.Refusals.{cue_number, no_such_step, open_number, too_short, wait_number};
+
+use bounds::{Reason, Told};
 
 /// The reasons of `Run::open`, in the order in which it tests for them.
 #[derive(Clone, Copy, PartialEq, Eq, Debug)]
@@ -11,15 +13,14 @@ pub enum OpenRefusal {
     Tables,
 }
 
-impl OpenRefusal {
-    /// The number of the refusal.
-    pub fn number(self) -> u8
-        ensures { result ≡ open_number self }
-    {
-        match self {
+impl Reason for OpenRefusal {
+    ghost told = { λ refusal. numbered (open_number refusal) };
+
+    fn told(&self) -> Told {
+        Told::of(match self {
             OpenRefusal::Limits => 7,
             OpenRefusal::Tables => 8,
-        }
+        })
     }
 }
 
@@ -40,19 +41,18 @@ pub enum CueRefusal {
     Early,
 }
 
-impl CueRefusal {
-    /// The number of the refusal.
-    pub fn number(self) -> u8
-        ensures { result ≡ cue_number self }
-    {
-        match self {
+impl Reason for CueRefusal {
+    ghost told = { λ refusal. numbered (cue_number refusal) };
+
+    fn told(&self) -> Told {
+        Told::of(match self {
             CueRefusal::NoSuchStep => 10,
             CueRefusal::Cued => 11,
             CueRefusal::Past => 12,
             CueRefusal::Late => 13,
             CueRefusal::NotReady => 14,
             CueRefusal::Early => 15,
-        }
+        })
     }
 }
 
@@ -67,16 +67,15 @@ pub enum WaitRefusal {
     Late,
 }
 
-impl WaitRefusal {
-    /// The number of the refusal.
-    pub fn number(self) -> u8
-        ensures { result ≡ wait_number self }
-    {
-        match self {
+impl Reason for WaitRefusal {
+    ghost told = { λ refusal. numbered (wait_number refusal) };
+
+    fn told(&self) -> Told {
+        Told::of(match self {
             WaitRefusal::AllCued => 16,
             WaitRefusal::Past => 12,
             WaitRefusal::Late => 13,
-        }
+        })
     }
 }
 
@@ -86,12 +85,13 @@ pub struct NoSuchStep;
 
 impl NoSuchStep {
     const NUMBER: u8 = 10;
+}
 
-    /// The number of the refusal.
-    pub fn number(self) -> u8
-        ensures { result ≡ no_such_step }
-    {
-        Self::NUMBER
+impl Reason for NoSuchStep {
+    ghost told = { λ _. numbered no_such_step };
+
+    fn told(&self) -> Told {
+        Told::of(Self::NUMBER)
     }
 }
 
@@ -101,11 +101,12 @@ pub struct Short;
 
 impl Short {
     const NUMBER: u8 = 8;
+}
 
-    /// The number of the refusal.
-    pub fn number(self) -> u8
-        ensures { result ≡ too_short }
-    {
-        Self::NUMBER
+impl Reason for Short {
+    ghost told = { λ _. numbered too_short };
+
+    fn told(&self) -> Told {
+        Told::of(Self::NUMBER)
     }
 }

@@ -9,7 +9,7 @@ use Rattle.card.proofs.reading.CardSource.item.Goals.{else-place-via-then-place+
 pub returns-then-place-count_in : goal.returns-then-place-count_in
 returns-then-place-count_in c =
     let xs = c.args.self.now.bytes.now in
-    ap Ok (c.of_row.ensures ∙ ap (λ n. row_item n c.row_in-row.result) c.steps_in.ensures ∙ ap (row_item (steps_of xs)) c.row_in-row.ensures)
+    ap Ok (c.item.ensures ∙ ap (λ n. row_item n c.row_in-row.result) c.steps_in.ensures ∙ ap (row_item (steps_of xs)) c.row_in-row.ensures)
     ∙ read_item xs c.args.place (omega arith) (omega (arith, c.count_in.ensures))
 
 pub returns-else-place : goal.returns-else-place
