@@ -5,7 +5,7 @@ use Rattle.std.specs.List.{AllByRecursion}
 use Rattle.std.proofs.lemmas.Bool.{or_from, le-ltb, cond-false}
 use Rattle.bounds.specs.declared.fault.Fault.{Fault}
 use Rattle.bounds.specs.declared.fault.Fault.TheVariants.{NoSuchStep, OutOfReach, NoEnd}
-use Rattle.bounds.specs.declared.item.Item.{Item}
+use Rattle.bounds.specs.Items.{Item}
 use Rattle.bounds.specs.declared.scan.SpoiledItem.{SpoiledItem}
 use Rattle.bounds.specs.Meaning.{Meaning}
 use Rattle.bounds.specs.Spoiled.{first_spoiled, readable}

@@ -6,7 +6,7 @@ use Rattle.std.specs.List.{AllByRecursion}
 use Rattle.std.proofs.lemmas.Int.{ints, clamps}
 use Rattle.std.proofs.lemmas.Bool.{cases_eq, cases_lt}
 use Rattle.bounds.specs.declared.bound.Bound.{Bound as BoundT}
-use Rattle.bounds.specs.declared.item.Item.{Item}
+use Rattle.bounds.specs.Items.{Item}
 use Rattle.bounds.specs.Meaning.{Meaning}
 use Rattle.bounds.specs.Timetables.{Keeps, KeepsBound, InTime, Timetable, Feasible, Distances, OneDistance}
 use Rattle.network.specs.Gaps.{Fits, Capped, Narrowed, ClosedBelow, Closes, Hopeless}
