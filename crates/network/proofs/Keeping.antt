@@ -11,7 +11,7 @@ use Rattle.queue.proofs.Growing.{gained_as, gained_from_none}
 use Rattle.queue.specs.Growing.{Gained}
 use Rattle.network.specs.Order.{link_before}
 use Rattle.network.specs.Groups.{is_leader}
-use Rattle.network.specs.Links.{MostKept, LeastKept, most_link, least_link, KeptAs, Kept, KeptBetween, KeptFrom, LinkTable, held as links_in}
+use Rattle.network.specs.Links.{link_of, KeptAs, NotKept, Kept, KeptBetween, KeptFrom, LinkTable, held as links_in}
 
 which_kind : (k : Kind) → (k ≡ Most) ⊎ (k ≡ Least)
 which_kind Most = inl refl
@@ -29,16 +29,12 @@ module _ (n : ℕ) (d : ℕ → ℕ → ℤ) (gs : List GroupEntry) (p q : ℕ) 
 
   -- the answer for one kind: the link that is kept, or that none is
   abbrev pub KeptOf : Kind → Option Link → Type 0
-  KeptOf kind o = MatchOption o ((seconds : ℕ) → KeptAs n d gs kind p q seconds → ⊥) (λ x. (x ≡ joining kind x.seconds) × KeptAs n d gs kind p q x.seconds)
+  KeptOf kind o = MatchOption o (NotKept n d gs kind p q) (λ x. (x ≡ link_of kind d p q) × KeptAs n d gs kind p q x.seconds)
 
-  -- the answer for the most link, and for the least link
-  pub most_of : (o : Option Link) → MatchOption o (MostKept n d gs p q → ⊥) (λ x. MostKept n d gs p q × (x ≡ most_link d p q)) → KeptOf Most o
-  most_of None none = λ seconds k. none k.0
-  most_of (Some x) some = let size = ap (λ z. z.seconds) some.1 in (some.1 ∙ ap (joining Most) (sym size), (some.0, size))
-
-  pub least_of : (o : Option Link) → MatchOption o (LeastKept n d gs p q → ⊥) (λ x. LeastKept n d gs p q × (x ≡ least_link d p q)) → KeptOf Least o
-  least_of None none = λ seconds k. none k.0
-  least_of (Some x) some = let size = ap (λ z. z.seconds) some.1 in (some.1 ∙ ap (joining Least) (sym size), (some.0, size))
+  -- the link of a kind joins p to q
+  joined : (kind : Kind) (x : Link) → x ≡ link_of kind d p q → x ≡ joining kind x.seconds
+  joined Most x is = is ∙ ap (joining Most) (sym (ap (λ z. z.seconds) is))
+  joined Least x is = is ∙ ap (joining Least) (sym (ap (λ z. z.seconds) is))
 
   -- what it says of a link
   pub record IsKept (kind : Kind) (x : Link) : Type 0 where
@@ -52,7 +48,7 @@ module _ (n : ℕ) (d : ℕ → ℕ → ℤ) (gs : List GroupEntry) (p q : ℕ) 
   found_kept kind (Some y) of x e =
       let same : y ≡ x = cc in
       let P : Link → Type 0 = λ z. (z ≡ joining kind z.seconds) × KeptAs n d gs kind p q z.seconds in
-      let moved = subst P same of in
+      let moved = subst P same (joined kind y of.0, of.1) in
       record { from = ap (λ z. z.trigger) moved.0; to = ap (λ z. z.target) moved.0; as_kind = ap (λ z. z.kind) moved.0; kept = moved.1 }
 
   kept_found : (kind : Kind) (o : Option Link) → KeptOf kind o → (x : Link) → IsKept kind x → o ≡ Some x
@@ -63,7 +59,7 @@ module _ (n : ℕ) (d : ℕ → ℕ → ℤ) (gs : List GroupEntry) (p q : ℕ) 
       let as_kind = is.as_kind in
       let seconds : y.seconds ≡ x.seconds = same_seconds kind y.seconds x.seconds of.1 is.kept in
       let whole : joining kind y.seconds ≡ x = λ i. record { trigger = sym from i; target = sym to i; kind = sym as_kind i; seconds = seconds i } in
-      ap Some (of.0 ∙ whole)
+      ap Some (joined kind y of.0 ∙ whole)
 
   -- a kept link from p to q has one of the two kinds
   kept_as : (x : Link) → KeptBetween n d gs p q x → (kind : Kind) → x.kind ≡ kind → IsKept kind x

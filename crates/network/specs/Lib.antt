@@ -1,6 +1,7 @@
 pub mod Grid
 pub mod Lines
 pub mod Gaps
+pub mod Words
 pub mod Order
 pub mod Counting
 pub mod Groups

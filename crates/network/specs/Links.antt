@@ -27,6 +27,11 @@ most_link d p q = record { trigger = p; target = q; kind = Most; seconds = unsig
 abbrev pub least_link : (ℕ → ℕ → ℤ) → ℕ → ℕ → Link
 least_link d p q = record { trigger = p; target = q; kind = Least; seconds = unsigned_abs (d q p) }
 
+-- the link of a kind from p to q
+abbrev pub link_of : Kind → (ℕ → ℕ → ℤ) → ℕ → ℕ → Link
+link_of Most d p q = most_link d p q
+link_of Least d p q = least_link d p q
+
 -- the most link from leader p to leader q is kept
 pub record MostKept (n : ℕ) (d : ℕ → ℕ → ℤ) (gs : List GroupEntry) (p q : ℕ) : Type 0 where
   pub onward : q ≡ 0 → ⊥
@@ -42,6 +47,10 @@ pub record LeastKept (n : ℕ) (d : ℕ → ℕ → ℤ) (gs : List GroupEntry) 
 abbrev pub KeptAs : ℕ → (ℕ → ℕ → ℤ) → List GroupEntry → Kind → ℕ → ℕ → ℕ → Type 0
 KeptAs n d gs Most p q seconds = MostKept n d gs p q × (seconds ≡ unsigned_abs (d p q))
 KeptAs n d gs Least p q seconds = LeastKept n d gs p q × (seconds ≡ unsigned_abs (d q p))
+
+-- no link of a kind from leader p to leader q is kept
+abbrev pub NotKept : ℕ → (ℕ → ℕ → ℤ) → List GroupEntry → Kind → ℕ → ℕ → Type 0
+NotKept n d gs kind p q = (seconds : ℕ) → KeptAs n d gs kind p q seconds → ⊥
 
 -- the link joins two different leaders, and is kept
 pub record Kept (n : ℕ) (d : ℕ → ℕ → ℤ) (gs : List GroupEntry) (x : Link) : Type 0 where

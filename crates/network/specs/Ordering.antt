@@ -30,7 +30,7 @@ due_apart : (x y : DueEntry) → due_keys x ≡ due_keys y → x ≡ y
 due_apart x y e =
     let u : x.upper ≡ y.upper = cc in
     let s : x.step ≡ y.step = cc in
-    λ i. record { step = s i; upper = u i }
+    λ i. record { upper = u i; step = s i }
 
 pub due_total : Total due_before
 due_total = total_by_keys due_keys due_apart

@@ -5,10 +5,11 @@ ghost use Rattle.network.specs.Ordering.{due_total};
 use queue::Ordered;
 
 /// A step that is due, and its upper end: the latest second at which it may start.
-#[derive(Clone, Copy, PartialEq, Eq, Debug)]
+/// Entries are ordered by upper end, then by step.
+#[derive(Clone, Copy, PartialEq, Eq, PartialOrd, Ord, Default, Debug)]
 pub struct DueEntry {
-    pub step: u16,
     pub upper: u64,
+    pub step: u16,
 }
 
 impl Ordered for DueEntry {
@@ -19,9 +20,6 @@ impl Ordered for DueEntry {
     ghost onward = { due_total.onward };
 
     fn comes_before(&self, other: &Self) -> bool {
-        if self.upper != other.upper {
-            return self.upper < other.upper;
-        }
-        self.step < other.step
+        self < other
     }
 }

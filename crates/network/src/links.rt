@@ -2,12 +2,12 @@
 ghost use Rattle.std.specs.Prelude.{◌≡◌, ℕ, ◌+◌, ◌-◌, ◌*◌, ◌<◌, ◌≤◌, true, length, take, drop, Some, MatchBool, MatchOption, MatchResult, ◌≢◌};
 ghost use Rattle.bounds.specs.Limits.{most_steps};
 ghost use Rattle.queue.specs.Growing.{Gained};
-ghost use Rattle.network.specs.Counting.{least_count, links_between, links_from, most_count};
+ghost use Rattle.network.specs.Counting.{links_between, links_from, links_of_kind};
 ghost use Rattle.network.specs.Filling.{Grown};
 ghost use Rattle.network.specs.Grid.{Settled, entry_at};
 ghost use Rattle.network.specs.Groups.{is_leader};
 ghost use Rattle.network.specs.Order.{link_before};
-ghost use Rattle.network.specs.Links.{Dominated, Dominates, KeptBetween, KeptFrom, LeastKept, LinkTable, MostKept, held, least_link, most_link};
+ghost use Rattle.network.specs.Links.{Dominated, Dominates, KeptAs, KeptBetween, KeptFrom, LinkTable, NotKept, held, link_of};
 
 use crate::grid::at;
 use crate::tables::{GroupEntry, Kind, Link};
@@ -83,9 +83,9 @@ fn push_between(
     ensures grown { MatchResult result (λ _. Grown (links_between (entry_at n table.now) trigger target) queue.old queue.new) (λ _. ⊥) }
     ensures gained { is_leader groups.now trigger ≡ true → is_leader groups.now target ≡ true → MatchResult result (λ _. Gained link_before (links_between (entry_at n table.now) trigger target) (KeptBetween n (entry_at n table.now) groups.now trigger target) queue.old queue.new) (λ _. ⊥) }
 {
-    let most = most_link(n, table, groups, trigger, target);
+    let most = kept_link(n, table, groups, Kind::Most, trigger, target);
     push_kept(most, queue)?;
-    let least = least_link(n, table, groups, trigger, target);
+    let least = kept_link(n, table, groups, Kind::Least, trigger, target);
     push_kept(least, queue)?;
     Ok(())
 }
@@ -102,11 +102,12 @@ fn push_kept(link: Option<Link>, queue: &mut Queue<'_, Link>) -> Result<(), Full
     }
 }
 
-// The most link from one leader to another, if it is kept.
-fn most_link(
+// The link of a kind from one leader to another, if it is kept.
+fn kept_link(
     n: usize,
     table: &[i32],
     groups: &[GroupEntry],
+    kind: Kind,
     trigger: usize,
     target: usize,
 ) -> Option<Link>
@@ -117,47 +118,25 @@ fn most_link(
     requires target { target < n }
     requires apart { target ≢ trigger }
     requires settled { Settled n (entry_at n table.now) }
-    ensures link { MatchOption result (MostKept n (entry_at n table.now) groups.now trigger target → ⊥) (λ x. MostKept n (entry_at n table.now) groups.now trigger target × (x ≡ most_link (entry_at n table.now) trigger target)) }
-    ensures count { held result ≤ most_count (entry_at n table.now) trigger target }
+    ensures link { MatchOption result (NotKept n (entry_at n table.now) groups.now kind trigger target) (λ x. (x ≡ link_of kind (entry_at n table.now) trigger target) × KeptAs n (entry_at n table.now) groups.now kind trigger target x.seconds) }
+    ensures count { held result ≤ links_of_kind kind (entry_at n table.now) trigger target }
 {
-    let gap = at(n, table, trigger, target);
-    if target == 0 || gap < 0 || dominated(n, table, groups, trigger, target) {
+    let (from, to) = match kind {
+        Kind::Most => (trigger, target),
+        Kind::Least => (target, trigger),
+    };
+    let gap = at(n, table, from, to);
+    let possible = match kind {
+        Kind::Most => target != 0 && gap >= 0,
+        Kind::Least => gap < 0,
+    };
+    if !possible || dominated(n, table, groups, from, to) {
         return None;
     }
     Some(Link {
         trigger: trigger as u8,
         target: target as u8,
-        kind: Kind::Most,
-        seconds: gap as u32,
-    })
-}
-
-// The least link from one leader to another, if it is kept.
-fn least_link(
-    n: usize,
-    table: &[i32],
-    groups: &[GroupEntry],
-    trigger: usize,
-    target: usize,
-) -> Option<Link>
-    requires small { n ≤ most_steps }
-    requires room { n * n ≤ length table.now }
-    requires entries { n ≤ length groups.now }
-    requires trigger { trigger < n }
-    requires target { target < n }
-    requires apart { target ≢ trigger }
-    requires settled { Settled n (entry_at n table.now) }
-    ensures link { MatchOption result (LeastKept n (entry_at n table.now) groups.now trigger target → ⊥) (λ x. LeastKept n (entry_at n table.now) groups.now trigger target × (x ≡ least_link (entry_at n table.now) trigger target)) }
-    ensures count { held result ≤ least_count (entry_at n table.now) trigger target }
-{
-    let gap = at(n, table, target, trigger);
-    if gap >= 0 || dominated(n, table, groups, target, trigger) {
-        return None;
-    }
-    Some(Link {
-        trigger: trigger as u8,
-        target: target as u8,
-        kind: Kind::Least,
+        kind,
         seconds: gap.unsigned_abs(),
     })
 }

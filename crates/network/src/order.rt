@@ -2,7 +2,7 @@
 ghost use Rattle.network.specs.Order.{link_before};
 ghost use Rattle.network.specs.Ordering.{link_total};
 
-use crate::tables::{Kind, Link};
+use crate::tables::Link;
 use queue::Ordered;
 
 impl Ordered for Link {
@@ -13,16 +13,6 @@ impl Ordered for Link {
     ghost onward = { link_total.onward };
 
     fn comes_before(&self, other: &Self) -> bool {
-        if self.trigger != other.trigger {
-            return self.trigger < other.trigger;
-        }
-        if self.target != other.target {
-            return self.target < other.target;
-        }
-        match (self.kind, other.kind) {
-            (Kind::Most, Kind::Least) => true,
-            (Kind::Least, Kind::Most) => false,
-            (Kind::Most, Kind::Most) | (Kind::Least, Kind::Least) => self.seconds < other.seconds,
-        }
+        self < other
     }
 }

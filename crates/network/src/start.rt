@@ -93,8 +93,5 @@ fn negated(end: Option<i32>) -> Option<i32>
     ensures value { result ≡ option_map neg_ℤ end }
     ensures near { end_in_reach result ≡ true }
 {
-    match end {
-        Some(seconds) => Some(-seconds),
-        None => None,
-    }
+    end.map(|seconds| -seconds)
 }

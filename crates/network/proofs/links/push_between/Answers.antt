@@ -3,7 +3,7 @@ use Rattle.network.specs.Grid.{entry_at}
 use Rattle.network.specs.Order.{link_before}
 use Rattle.queue.proofs.Growing.{gained_more}
 use Rattle.network.proofs.Filling.{grown_more}
-use Rattle.network.proofs.Keeping.{most_of, least_of, between_kinds, kinds_apart}
+use Rattle.network.proofs.Keeping.{between_kinds, kinds_apart}
 use Rattle.network.proofs.links.push_between.Goals as goal
 
 pub returns : goal.returns
@@ -11,15 +11,13 @@ returns c =
     let n = c.args.n in
     let d = entry_at n c.args.table.now in
     let gs = c.args.groups.now in
-    let most = c.most_link-most.ensures in
-    let least = c.least_link-least.ensures in
-    let most_kept = most_of n d gs _ _ _ most.link in
-    let least_kept = least_of n d gs _ _ _ least.link in
+    let most = c.kept_link-most.ensures in
+    let least = c.kept_link-least.ensures in
     record {
       grown = grown_more _ _ _ _ _ _ (omega (arith, most.count, least.count)) c.in_ok-push_kept.ensures.grown c.in_ok-push_kept-2.ensures.grown;
       gained = λ trigger_leads target_leads.
           gained_more link_before _ _ _ _ _ _ _ _ _ (omega (arith, most.count, least.count))
-          (between_kinds n d gs _ _ c.requires.trigger c.requires.target trigger_leads target_leads c.requires.apart _ _ most_kept least_kept)
-          (kinds_apart n d gs _ _ _ _ most_kept least_kept)
+          (between_kinds n d gs _ _ c.requires.trigger c.requires.target trigger_leads target_leads c.requires.apart _ _ most.link least.link)
+          (kinds_apart n d gs _ _ _ _ most.link least.link)
           c.in_ok-push_kept.ensures.gained c.in_ok-push_kept-2.ensures.gained;
     }
