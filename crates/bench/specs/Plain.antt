@@ -1,6 +1,7 @@
 -- What crosses, beside the types of the part.
-use Rattle.std.specs.Prelude.{Bool, true, false}
+use Rattle.std.specs.Prelude.{Bool, true, false, cond}
 use Rattle.bounds.specs.declared.row.LooseEnd.{LooseEnd}
+use Rattle.bounds.specs.declared.row.LooseEnd.TheVariants.{Present, Absent}
 use Rattle.bounds.specs.declared.row.Row.{Row}
 use Rattle.network.specs.declared.tables.GroupEntry.{GroupEntry}
 use Rattle.network.specs.declared.tables.Kind.{Kind}
@@ -12,7 +13,7 @@ use Rattle.bench.specs.declared.PlainGroup.{PlainGroup}
 use Rattle.bench.specs.declared.PlainLink.{PlainLink}
 
 abbrev pub loose_end : PlainEnd → LooseEnd
-loose_end e = record { present = e.present; value = e.value }
+loose_end e = cond e.present (Present e.value) (Absent e.value)
 
 -- the row that a bound is handed over for
 abbrev pub plain_row : PlainBound → Row

@@ -4,12 +4,12 @@
 ghost use Rattle.std.specs.Prelude.{◌≡◌, ◌*◌, ◌^◌, ◌<◌, ◌≤◌, ◌++◌, map, length, drop};
 ghost use Rattle.network.specs.Refusals.{early_refusal, told};
 ghost use Rattle.bench.specs.Outcomes.{Answered, job, refusal_outcome};
-ghost use Rattle.bench.specs.Plain.{plain_group, plain_link, plain_row};
+ghost use Rattle.bench.specs.Plain.{loose_end, plain_group, plain_link, plain_row};
 
 pub mod pacing;
 
 use bounds::limits::{MOST_ITEMS, MOST_STEPS};
-use bounds::{LooseEnd, Row, Rows};
+use bounds::{LooseEnd, Reason, Row, Rows};
 use network::{GroupEntry, Kind, Link, Refusal, compile};
 
 const MOST_ROWS: usize = MOST_ITEMS as usize;
@@ -63,28 +63,12 @@ pub struct Outcome {
     pub links: usize,
 }
 
-const NO_END: LooseEnd = LooseEnd {
-    present: false,
-    value: 0,
-};
-
+// A row that no bound stands in yet.
 const NO_ROW: Row = Row {
     from: 0,
     to: 0,
-    lower: NO_END,
-    upper: NO_END,
-};
-
-const NO_GROUP: GroupEntry = GroupEntry {
-    leader: 0,
-    offset: 0,
-};
-
-const NO_LINK: Link = Link {
-    trigger: 0,
-    target: 0,
-    kind: Kind::Most,
-    seconds: 0,
+    lower: LooseEnd::Absent(0),
+    upper: LooseEnd::Absent(0),
 };
 
 /// Compiles the job of these bounds once, and `again` times before that, and writes its groups and links to the front of the handed ones.
@@ -113,8 +97,8 @@ pub extern "C" fn nalthwig_compile(
     let mut rows = [NO_ROW; MOST_ROWS];
     write(bounds, &mut rows);
     let source = Rows::new(steps, &rows[0..bounds.len()]);
-    let mut group_slots = [NO_GROUP; MOST_GROUPS];
-    let mut link_slots = [NO_LINK; MOST_LINKS];
+    let mut group_slots = [GroupEntry::default(); MOST_GROUPS];
+    let mut link_slots = [Link::default(); MOST_LINKS];
     let group_table = &mut group_slots[0..n];
     let link_table = &mut link_slots[0..most_links];
     for _ in 0..again {
@@ -146,66 +130,61 @@ fn refused(refusal: Refusal) -> Outcome
     }
 }
 
-// A type that a T is made into where it crosses.
-trait Crossed<T>: Copy {
-    ghost made: { T → Self };
-
-    fn of(from: T) -> Self
-        ensures { result ≡ made from };
-}
-
 // Writes what is made of the entries to the front of `out`.
-fn write<T: Copy, U: Crossed<T>>(entries: &[T], out: &mut [U])
+fn write<T: Copy, U: Copy + From<T>>(entries: &[T], out: &mut [U])
     requires { length entries.now ≤ length out.old }
-    ensures { out.new ≡ map U.made entries.now ++ drop (length entries.now) out.old }
+    ensures { (made : T → U) → ((x : T) (y : U) → U.from_gives x y → y ≡ made x) → out.new ≡ map made entries.now ++ drop (length entries.now) out.old }
 {
-    for i in 0..entries.len() {
-        out[i] = U::of(entries[i]);
+    for (place, entry) in entries.iter().enumerate() {
+        out[place] = U::from(*entry);
     }
 }
 
-impl Crossed<PlainBound> for Row {
-    ghost made = { plain_row };
+impl From<PlainEnd> for LooseEnd {
+    ghost from_gives = { λ end r. r ≡ loose_end end };
 
-    fn of(from: PlainBound) -> Row {
+    fn from(end: PlainEnd) -> LooseEnd {
+        if end.present {
+            LooseEnd::Present(end.value)
+        } else {
+            LooseEnd::Absent(end.value)
+        }
+    }
+}
+
+impl From<PlainBound> for Row {
+    ghost from_gives = { λ bound r. r ≡ plain_row bound };
+
+    fn from(bound: PlainBound) -> Row {
         Row {
-            from: from.from,
-            to: from.to,
-            lower: LooseEnd {
-                present: from.lower.present,
-                value: from.lower.value,
-            },
-            upper: LooseEnd {
-                present: from.upper.present,
-                value: from.upper.value,
-            },
+            from: bound.from,
+            to: bound.to,
+            lower: LooseEnd::from(bound.lower),
+            upper: LooseEnd::from(bound.upper),
         }
     }
 }
 
-impl Crossed<GroupEntry> for PlainGroup {
-    ghost made = { plain_group };
+impl From<GroupEntry> for PlainGroup {
+    ghost from_gives = { λ entry r. r ≡ plain_group entry };
 
-    fn of(from: GroupEntry) -> PlainGroup {
+    fn from(entry: GroupEntry) -> PlainGroup {
         PlainGroup {
-            leader: from.leader,
-            offset: from.offset,
+            leader: entry.leader,
+            offset: entry.offset,
         }
     }
 }
 
-impl Crossed<Link> for PlainLink {
-    ghost made = { plain_link };
+impl From<Link> for PlainLink {
+    ghost from_gives = { λ link r. r ≡ plain_link link };
 
-    fn of(from: Link) -> PlainLink {
+    fn from(link: Link) -> PlainLink {
         PlainLink {
-            trigger: from.trigger,
-            target: from.target,
-            least: match from.kind {
-                Kind::Most => false,
-                Kind::Least => true,
-            },
-            seconds: from.seconds,
+            trigger: link.trigger,
+            target: link.target,
+            least: link.kind == Kind::Least,
+            seconds: link.seconds,
         }
     }
 }

@@ -1,7 +1,7 @@
 // What the benchmark calls: runs over the tables of a job, for a caller that is held to nothing.
 ghost use Rattle.std.specs.Prelude.{◌≤◌, length};
 
-use crate::{MOST_GROUPS, MOST_LINKS, MOST_ROWS, NO_GROUP, NO_LINK, NO_ROW, PlainBound, write};
+use crate::{MOST_GROUPS, MOST_LINKS, MOST_ROWS, NO_ROW, PlainBound, write};
 use bounds::Rows;
 use network::{GroupEntry, Link, compile};
 use pacer::Run;
@@ -34,8 +34,8 @@ pub extern "C" fn nalthwig_pace(
     write(bounds, &mut rows);
     let source = Rows::new(steps, &rows[0..bounds.len()]);
     let mut distances = [0i32; MOST_PAIRS];
-    let mut groups = [NO_GROUP; MOST_GROUPS];
-    let mut links = [NO_LINK; MOST_LINKS];
+    let mut groups = [GroupEntry::default(); MOST_GROUPS];
+    let mut links = [Link::default(); MOST_LINKS];
     match compile(&source, &mut distances, &mut groups, &mut links) {
         Ok(compiled) => {
             for _ in 0..again {
@@ -68,8 +68,7 @@ fn perform(run: &mut Run<'_>, cues: &[PlainCue]) -> u32
     ensures { result ≤ length cues.now }
 {
     let mut taken = 0u32;
-    for i in 0..cues.len() {
-        let cue = cues[i];
+    for cue in cues {
         if run.cue(cue.step, cue.time).is_ok() {
             taken = taken.saturating_add(1);
         }

@@ -7,7 +7,7 @@ use Rattle.bounds.specs.Told.{told_spoiled}
 use Rattle.network.specs.Compiled as network
 use Rattle.network.specs.Refusals.{early_refusal}
 use Rattle.bench.specs.Outcomes.{job}
-use Rattle.bench.specs.Plain.{plain_row}
+use Rattle.bench.specs.Plain.{plain_row, plain_group, plain_link}
 use Rattle.bench.proofs.Answering.{answered, answered_early, behind, early_items, early_limits, early_tables, handed, means_job}
 use Rattle.bench.proofs.Copying.{front_length, front_map}
 use Rattle.bench.proofs.nalthwig_compile.Goals as goal
@@ -48,7 +48,7 @@ module _ (c : After-compile-2) (few : c.args.steps < 2 ^ 16) where
 
   -- what holds of the compiled rows holds of the job
   of_job : (P : Meaning → Type 0) → P (rows_meaning c.new-source.result.steps c.new-source.result.few c.new-source.result.rows.now) → P the_job
-  of_job P = subst P (means_job c.args.steps _ few c.new-source.result.few c.args.bounds.now _ c.new-source.ensures.0 (c.new-source.ensures.1 ∙ front_map plain_row c.args.bounds.now _ c.write.ensures))
+  of_job P = subst P (means_job c.args.steps _ few c.new-source.result.few c.args.bounds.now _ c.new-source.ensures.0 (c.new-source.ensures.1 ∙ front_map plain_row c.args.bounds.now _ (c.write.ensures plain_row (λ x y e. e))))
 
   -- only an item can be refused early, at the tables of the compilation as at the handed ones
   by_items : (d g l : ℕ) → c.args.steps * c.args.steps ≤ d → c.args.steps ≤ g → c.args.steps * (c.args.steps - 1) ≤ l → early_refusal the_job d g l ≡ option_map told_spoiled (first_spoiled 0 the_job.items)
@@ -71,7 +71,7 @@ returns-in-Ok c =
           answered _ _ _ _ _ _ _ (the_job at few) _ _ _ (compiled_early at few) (handed_early at few) c.loop.distances c.loop.invariant (Ok c.in-Ok.compiled)
           (of_job at few (λ m. network.Decided m (early_refusal m (length c.loop.distances) (length c.loop.group_table) (length c.loop.link_table)) (Ok c.in-Ok.compiled)) c.in-Ok.ensures.decided)
           (handed _ _ _ _ _ _ (the_job at few) c.in-Ok.compiled _ _ (of_job at few (λ m. network.TablesOf m c.in-Ok.compiled c.compile-2.new.distances c.compile-2.new.groups c.compile-2.new.links) c.in-Ok.ensures.tables)
-          (c.compile-2.auto.groups ∙ each at) refl c.write-in-Ok.ensures c.write-in-Ok-2.ensures);
+          (c.compile-2.auto.groups ∙ each at) refl (c.write-in-Ok.ensures plain_group (λ x y e. e)) (c.write-in-Ok-2.ensures plain_link (λ x y e. e)));
       distances = left at;
     }
 

@@ -1,5 +1,5 @@
 use Rattle.std.proofs.Common.{◌≡◌, ◌++◌, map, take, drop}
 use Rattle.bench.proofs.write.Given as goal
 
-abbrev pub invariant-loop-i : goal.invariant-loop-i
-invariant-loop-i g l = l.out ≡ map g.U.Crossed.made (take l.i l.entries) ++ drop l.i l.initial.out
+abbrev pub invariant-loop-place : goal.invariant-loop-place
+invariant-loop-place g l = (made : _ → _) → ((x : _) (y : _) → g.U.From.from_gives x y → y ≡ made x) → l.out ≡ map made (take l.place l.entries) ++ drop l.place l.initial.out
