@@ -3,7 +3,7 @@
 
 use bounds::limits::MOST_ITEMS;
 use card::layout::{HEADER_BYTES, RECORD_BYTES};
-use listing::{Listing, list_card};
+use listing::{NotListed, list_card};
 use std::io;
 use std::io::{BufWriter, Read, Write};
 use std::process::ExitCode;
@@ -14,15 +14,16 @@ const MOST_BYTES: usize = HEADER_BYTES + RECORD_BYTES * MOST_ITEMS as usize + 1;
 fn main(rt: HostRuntime) -> io::Result<ExitCode> {
     let mut bytes = Vec::new(rt.alloc());
     rt.stdin().take(MOST_BYTES as u64).read_to_end(&mut bytes)?;
-    match list_card(rt.alloc(), &bytes)? {
-        Listing::Listed(text) => {
+    match list_card(rt.alloc(), &bytes) {
+        Ok(text) => {
             print(&rt, &text)?;
             Ok(ExitCode::SUCCESS)
         }
-        Listing::Refused(line) => {
+        Err(NotListed::Refused(line)) => {
             print(&rt, &line)?;
             Ok(ExitCode::FAILURE)
         }
+        Err(NotListed::Memory(error)) => Err(error.into()),
     }
 }
 

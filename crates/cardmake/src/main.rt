@@ -1,12 +1,12 @@
 // Reads a job as text from standard input and writes its card to standard output. A wrong text or a refusal is told on standard error, and ends with status 1.
 #![tactic(auto)]
 
-use bounds::Rows;
 use bounds::limits::MOST_ITEMS;
+use bounds::{Reason, Rows};
 use card::layout::{HEADER_BYTES, RECORD_BYTES};
 use card::write_card;
 use jobtext::job::MOST_BYTES;
-use jobtext::{Job, TextError, read_job};
+use jobtext::{Job, read_job};
 use std::io;
 use std::io::{BufWriter, Read, Write};
 use std::process::ExitCode;
@@ -23,7 +23,7 @@ fn main(rt: HostRuntime) -> io::Result<ExitCode> {
     match read_job(rt.alloc(), &text) {
         Ok(job) => make_card(&rt, &job),
         Err(error) => {
-            tell_error(&rt, error)?;
+            eprintln!(rt; "{error}")?;
             Ok(ExitCode::FAILURE)
         }
     }
@@ -38,7 +38,8 @@ fn make_card(rt: &HostRuntime, job: &Job) -> io::Result<ExitCode> {
             Ok(ExitCode::SUCCESS)
         }
         Err(refusal) => {
-            tell_refusal(rt, refusal.number(), refusal.place())?;
+            let told = refusal.told();
+            eprintln!(rt; "{told}")?;
             Ok(ExitCode::FAILURE)
         }
     }
@@ -49,21 +50,4 @@ fn print(rt: &HostRuntime, bytes: &[u8]) -> io::Result<()> {
     let mut out = BufWriter::new(rt.alloc(), rt.stdout())?;
     out.write_all(bytes)?;
     out.flush()
-}
-
-// Tells what is wrong with a text.
-fn tell_error(rt: &HostRuntime, error: TextError) -> io::Result<()> {
-    match error {
-        TextError::TooLong => eprintln!(rt; "error: more than {MOST_BYTES} bytes"),
-        TextError::Line(number) => eprintln!(rt; "error at line {number}"),
-        TextError::Memory => eprintln!(rt; "error: not enough memory"),
-    }
-}
-
-// Tells the number of a refusal, and the place that it has, if any.
-fn tell_refusal(rt: &HostRuntime, number: u8, place: Option<usize>) -> io::Result<()> {
-    match place {
-        Some(place) => eprintln!(rt; "refused {number} at {place}"),
-        None => eprintln!(rt; "refused {number}"),
-    }
 }

@@ -1,5 +1,5 @@
 -- What is printed for a card, and for any source.
-use Rattle.std.specs.Prelude.{◌≡◌, ℕ, ◌-◌, ◌*◌, ◌≤◌, List, length, take, ℤ, Some, None, string_bytes, Option}
+use Rattle.std.specs.Prelude.{◌≡◌, ℕ, ◌-◌, ◌*◌, ◌≤◌, List, length, take, ℤ, Some, None, Ok, Err, String, string_bytes, Option, Result}
 use Rattle.std.specs.Option.{unwrap_or}
 use Rattle.bounds.specs.Limits.{most_steps}
 use Rattle.bounds.specs.Meaning.{Meaning}
@@ -13,8 +13,9 @@ use Rattle.network.specs.declared.compiler.Compiled.{Compiled}
 use Rattle.network.specs.declared.refusal.Refusal.TheVariants.{NoTimetable}
 use Rattle.network.specs.declared.tables.GroupEntry.{GroupEntry}
 use Rattle.network.specs.declared.tables.Link.{Link}
-use Rattle.listing.specs.declared.answer.Listing.{Listing}
-use Rattle.listing.specs.declared.answer.Listing.TheVariants.{Listed, Refused}
+use Rattle.listing.specs.declared.answer.NotListed.{NotListed}
+use Rattle.listing.specs.declared.answer.NotListed.TheVariants.{Refused, Memory}
+use Rattle.std.specs.declared.alloc.Global.{Global}
 use Rattle.listing.specs.Text.{listing_text, refusal_text}
 
 -- the refusal of a job before a timetable is looked for, if there is one, with tables for the most steps
@@ -33,19 +34,21 @@ pub record Lists (job : Meaning) (text : List ℕ) : Type 0 where
   pub most : length links ≤ job.steps * (job.steps - 1)
   pub shown : text ≡ listing_text groups links
 
--- the answer for a job: its listing, unless it is refused early; or the line of the early refusal, else of the want of a timetable
-abbrev pub JobAnswer : Meaning → Listing → Type 0
-JobAnswer job (Listed text) = (refused_early job ≡ None) × Lists job (string_bytes text)
-JobAnswer job (Refused text) = string_bytes text ≡ told_text (unwrap_or (refused_early job) (told NoTimetable))
+-- the answer for a job, unless memory is short: its listing, unless it is refused early; or the line of the early refusal, else of the want of a timetable
+abbrev pub JobAnswer : Meaning → Result (String Global) NotListed → Type 0
+JobAnswer job (Ok text) = (refused_early job ≡ None) × Lists job (string_bytes text)
+JobAnswer job (Err (Refused text)) = string_bytes text ≡ told_text (unwrap_or (refused_early job) (told NoTimetable))
+JobAnswer job (Err (Memory e)) = Unit {0}
 
 -- the answer for bytes that open, as the card's job, and for those that do not, by the number of the refusal
-abbrev pub OpenedAnswer : Option ℕ → Meaning → Listing → Type 0
+abbrev pub OpenedAnswer : Option ℕ → Meaning → Result (String Global) NotListed → Type 0
 OpenedAnswer None job answer = JobAnswer job answer
-OpenedAnswer (Some number) job (Listed text) = ⊥
-OpenedAnswer (Some number) job (Refused text) = string_bytes text ≡ refusal_text number None
+OpenedAnswer (Some number) job (Ok text) = ⊥
+OpenedAnswer (Some number) job (Err (Refused text)) = string_bytes text ≡ refusal_text number None
+OpenedAnswer (Some number) job (Err (Memory e)) = Unit {0}
 
 -- the answer for bytes
-abbrev pub CardAnswer : List ℕ → Listing → Type 0
+abbrev pub CardAnswer : List ℕ → Result (String Global) NotListed → Type 0
 CardAnswer bytes answer = OpenedAnswer (open_refusal bytes) (card_meaning bytes) answer
 
 -- the text lists the tables of the job: the group of each step, then the kept links
@@ -63,10 +66,11 @@ RefusedAs job (Some early) text = text ≡ told_text early
 RefusedAs job None text = (text ≡ told_text (told NoTimetable)) × (Feasible job → ⊥)
 
 -- by its timetables: its listing where it is not refused early and has one, else the line of its refusal
-abbrev pub JobDecided : Meaning → Listing → Type 0
-JobDecided job (Listed text) = (refused_early job ≡ None) × Feasible job × ListsTables job (string_bytes text)
-JobDecided job (Refused text) = RefusedAs job (refused_early job) (string_bytes text)
+abbrev pub JobDecided : Meaning → Result (String Global) NotListed → Type 0
+JobDecided job (Ok text) = (refused_early job ≡ None) × Feasible job × ListsTables job (string_bytes text)
+JobDecided job (Err (Refused text)) = RefusedAs job (refused_early job) (string_bytes text)
+JobDecided job (Err (Memory e)) = Unit {0}
 
 -- bytes that open, by the timetables of the card's job
-abbrev pub CardDecided : List ℕ → Listing → Type 0
+abbrev pub CardDecided : List ℕ → Result (String Global) NotListed → Type 0
 CardDecided bytes answer = open_refusal bytes ≡ None → JobDecided (card_meaning bytes) answer

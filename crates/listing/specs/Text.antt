@@ -1,9 +1,8 @@
 -- The text of a listing and of a refusal, as bytes.
 use Rattle.std.specs.Prelude.{ℕ, ◌+◌, List, [], ◌∷◌, ◌++◌, Some, None, codes, decimal, Option}
 use Rattle.network.specs.declared.tables.GroupEntry.{GroupEntry}
-use Rattle.network.specs.declared.tables.Kind.{Kind}
-use Rattle.network.specs.declared.tables.Kind.TheVariants.{Most, Least}
 use Rattle.network.specs.declared.tables.Link.{Link as LinkT}
+use Rattle.network.specs.Words.{kind_word}
 use Rattle.listing.specs.declared.line.Line.{Line}
 use Rattle.listing.specs.declared.line.Line.TheVariants.{Step, Link, Refused}
 
@@ -12,11 +11,6 @@ abbrev pub spaced : List (List ℕ) → List ℕ
 spaced [] = 10 ∷ []
 spaced (w ∷ []) = w ++ (10 ∷ [])
 spaced (w ∷ v ∷ ws) = w ++ (32 ∷ spaced (v ∷ ws))
-
--- the word for the way in which a link limits its target
-abbrev pub kind_word : Kind → List ℕ
-kind_word Most = codes "most"
-kind_word Least = codes "least"
 
 -- the line of a step: its number, its leader, and how many seconds it comes after the leader
 abbrev pub step_line : ℕ → GroupEntry → List ℕ
@@ -49,4 +43,9 @@ refusal_text n (Some p) = spaced (codes "refused" ∷ decimal n ∷ codes "at" �
 abbrev pub line_text : Line → List ℕ
 line_text (Step i g) = step_line i g
 line_text (Link l) = link_line l
-line_text (Refused n p) = refusal_text n p
+line_text (Refused t) = refusal_text t.number t.place
+
+-- the lines that are made of a list, the first entry of which stands at i
+abbrev pub lines_from : {X : Type 0} → (ℕ → X → Line) → ℕ → List X → List ℕ
+lines_from made i [] = []
+lines_from made i (x ∷ xs) = line_text (made i x) ++ lines_from made (i + 1) xs

@@ -5,5 +5,5 @@ pub mod answer;
 mod line;
 mod text;
 
-pub use answer::{Listing, list_card, list_source};
+pub use answer::{NotListed, list_card, list_source};
 pub use text::{listing, refusal_line};

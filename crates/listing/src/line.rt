@@ -1,8 +1,9 @@
 // One line of a listing, as text.
 ghost use Rattle.std.specs.Prelude.{◌≡◌, ◌++◌, Some, string_bytes, OnOk};
-ghost use Rattle.listing.specs.Text.{kind_word, line_text};
+ghost use Rattle.listing.specs.Text.{line_text};
 
-use network::{GroupEntry, Kind, Link};
+use bounds::Told;
+use network::{GroupEntry, Link};
 use std::alloc::AllocError;
 use std::fmt;
 
@@ -13,8 +14,8 @@ pub(crate) enum Line {
     Step { step: usize, group: GroupEntry },
     /// A link.
     Link(Link),
-    /// The number of a refusal, and the place that it has, if any.
-    Refused { number: u8, place: Option<usize> },
+    /// A refusal.
+    Refused(Told),
 }
 
 impl fmt::Display for Line {
@@ -30,14 +31,11 @@ impl fmt::Display for Line {
             Line::Link(link) => {
                 let trigger = link.trigger;
                 let target = link.target;
-                let kind = word(link.kind);
+                let kind = link.kind;
                 let seconds = link.seconds;
                 writeln!(f, "link {trigger} {target} {kind} {seconds}")
             }
-            Line::Refused { number, place } => match place {
-                Some(place) => writeln!(f, "refused {number} at {place}"),
-                None => writeln!(f, "refused {number}"),
-            },
+            Line::Refused(told) => writeln!(f, "{told}"),
         }
     }
 }
@@ -46,18 +44,5 @@ impl fmt::Display for Line {
 pub(crate) fn add(text: &mut String, line: Line) -> Result<(), AllocError>
     ensures { OnOk result (string_bytes text.new ≡ string_bytes text.old ++ line_text line) }
 {
-    match write!(text, "{line}") {
-        Ok(()) => Ok(()),
-        Err(_) => Err(AllocError),
-    }
-}
-
-// The word for the way in which a link limits its target.
-fn word(kind: Kind) -> &'static str
-    ensures { result.now ≡ kind_word kind }
-{
-    match kind {
-        Kind::Most => "most",
-        Kind::Least => "least",
-    }
+    write!(text, "{line}")
 }

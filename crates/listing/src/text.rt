@@ -1,8 +1,10 @@
 // The text of a whole listing, and of a refusal.
-ghost use Rattle.std.specs.Prelude.{◌≡◌, ◌++◌, IfOk, string_bytes, OnOk};
-ghost use Rattle.listing.specs.Text.{link_lines, listing_text, refusal_text, step_lines};
+ghost use Rattle.std.specs.Prelude.{◌≡◌, ℕ, ◌++◌, IfOk, string_bytes, OnOk};
+ghost use Rattle.listing.specs.declared.line.Line.{Line as LineT};
+ghost use Rattle.listing.specs.Text.{lines_from, listing_text, refusal_text};
 
 use crate::line::{Line, add};
+use bounds::Told;
 use network::{GroupEntry, Link};
 use std::alloc::{AllocError, Global};
 
@@ -11,8 +13,8 @@ pub fn listing(heap: Global, groups: &[GroupEntry], links: &[Link]) -> Result<St
     ensures { IfOk result (λ t. string_bytes t ≡ listing_text groups.now links.now) }
 {
     let mut text = String::new(heap);
-    add_steps(&mut text, groups)?;
-    add_links(&mut text, links)?;
+    add_all(&mut text, groups, |step, group| Line::Step { step, group })?;
+    add_all(&mut text, links, |_, link| Line::Link(link))?;
     Ok(text)
 }
 
@@ -21,27 +23,21 @@ pub fn refusal_line(heap: Global, number: u8, place: Option<usize>) -> Result<St
     ensures { IfOk result (λ t. string_bytes t ≡ refusal_text number place) }
 {
     let mut text = String::new(heap);
-    add(&mut text, Line::Refused { number, place })?;
+    add(&mut text, Line::Refused(Told { number, place }))?;
     Ok(text)
 }
 
-// Adds the lines of the steps.
-fn add_steps(text: &mut String, groups: &[GroupEntry]) -> Result<(), AllocError>
-    ensures { OnOk result (string_bytes text.new ≡ string_bytes text.old ++ step_lines 0 groups.now) }
+// Adds a line for each entry, in order: the line that is made of its place and of the entry.
+fn add_all<T: Copy, F: Fn(usize, T) -> Line>(
+    text: &mut String,
+    entries: &[T],
+    line: F,
+) -> Result<(), AllocError>
+    requires { F.IsAlwaysCallable line }
+    ensures { OnOk result ((made : ℕ → T → LineT) → ((i : ℕ) (x : T) (y : LineT) → F.post line i x y → y ≡ made i x) → string_bytes text.new ≡ string_bytes text.old ++ lines_from made 0 entries.now) }
 {
-    for (step, group) in groups.iter().enumerate() {
-        let group = *group;
-        add(text, Line::Step { step, group })?;
-    }
-    Ok(())
-}
-
-// Adds the lines of the links.
-fn add_links(text: &mut String, links: &[Link]) -> Result<(), AllocError>
-    ensures { OnOk result (string_bytes text.new ≡ string_bytes text.old ++ link_lines links.now) }
-{
-    for link in links {
-        add(text, Line::Link(*link))?;
+    for (place, entry) in entries.iter().enumerate() {
+        add(text, line(place, *entry))?;
     }
     Ok(())
 }
