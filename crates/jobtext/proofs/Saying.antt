@@ -1,22 +1,14 @@
 -- What a word says as an end, and what the words of a line say.
-use Rattle.std.proofs.Common.{◌≡◌, ℕ, ◌<◌, Bool, true, false, cond, List, [], ◌∷◌, length, get_or, drop, Ok, Err, codes, Decides, Option, Result, sym, refl, ap, ◌∙◌, arith, rules, eq-eqb}
+use Rattle.std.proofs.Common.{◌≡◌, ℕ, Bool, true, false, cond, List, [], ◌∷◌, Ok, Err, codes, Decides, Result, sym, refl, ap, ◌∙◌, rules}
 use Rattle.std.proofs.lemmas.Slice.Eq.{bytes_eq-Decides}
 use Rattle.std.specs.Str.{bytes_eq}
-use Rattle.bounds.specs.declared.row.LooseEnd.{LooseEnd}
 use Rattle.jobtext.specs.declared.cut.Stop.TheVariants.{Comment}
 use Rattle.jobtext.specs.declared.line.Line.{Line}
 use Rattle.jobtext.specs.declared.line.Line.TheVariants.{Blank}
 use Rattle.jobtext.specs.declared.line.NotALine.{NotALine}
 use Rattle.jobtext.specs.Cut.{first_piece}
 use Rattle.jobtext.specs.Line.{no_line, steps_said, bound_said, words_say, line_of}
-use Rattle.jobtext.specs.Numbers.{most_above, most_below, number_up_to, behind_minus, end_above, end_below, end_of}
 use Rattle.jobtext.specs.Words.{words}
-
--- digits behind a minus sign
-pub minus_digits : (word digits : List ℕ) (r : Option LooseEnd) → get_or word 0 0 ≡ 45 → 1 < length word → digits ≡ drop 1 word → r ≡ end_below (number_up_to most_below digits) → r ≡ end_of word
-minus_digits [] digits r e l d h = absurd (omega arith)
-minus_digits (c ∷ []) digits r e l d h = absurd (omega arith)
-minus_digits (c ∷ x ∷ xs) digits r e l d h = h ∙ ap (λ ds. end_below (number_up_to most_below ds)) d ∙ sym (ap (λ b. cond b (behind_minus (x ∷ xs)) (end_above (number_up_to most_above (c ∷ x ∷ xs)))) (eq-eqb c 45 e))
 
 -- the answer of a comparison is that of `sameBytes`
 same_bytes : (xs ys : List ℕ) (b t : Bool) → Decides b (xs ≡ ys) → b ≡ t → bytes_eq xs ys ≡ t

@@ -15,7 +15,7 @@ const STEPS: &[u8] = b"steps";
 const BOUND: &[u8] = b"bound";
 
 /// What a line says.
-#[derive(Clone, Copy)]
+#[derive(Clone, Copy, PartialEq, Eq, Debug)]
 pub enum Line {
     /// Nothing: it has no word, or only a comment.
     Blank,
@@ -26,7 +26,7 @@ pub enum Line {
 }
 
 /// The line is of no such form.
-#[derive(Clone, Copy)]
+#[derive(Clone, Copy, PartialEq, Eq, Debug)]
 pub struct NotALine;
 
 /// Reads one line, given without its line feed.
@@ -50,41 +50,26 @@ pub fn read_line(line: &[u8]) -> Result<Line, NotALine>
 fn steps_line(text: &[u8]) -> Result<Line, NotALine>
     ensures { result ≡ steps_said (words text.now) }
 {
-    let Some(word) = only_word(text) else {
-        return Err(NotALine);
-    };
-    match step(word) {
-        Some(steps) => Ok(Line::Steps(steps)),
-        None => Err(NotALine),
-    }
+    let word = only_word(text).ok_or(NotALine)?;
+    step(word).map(Line::Steps).ok_or(NotALine)
 }
 
 // Reads the line of a bound, behind its first word.
 fn bound_line(text: &[u8]) -> Result<Line, NotALine>
     ensures { result ≡ bound_said (words text.now) }
 {
-    let Some(words) = four_words(text) else {
-        return Err(NotALine);
-    };
-    match row(words) {
-        Some(row) => Ok(Line::Bound(row)),
-        None => Err(NotALine),
-    }
+    let words = four_words(text).ok_or(NotALine)?;
+    row(words).map(Line::Bound).ok_or(NotALine)
 }
 
 // The row that the words of a bound write, if each of them writes its part.
 fn row(words: BoundWords<'_>) -> Option<Row>
     ensures { result ≡ row_of words.entry.from.now words.entry.to.now words.entry.lower.now words.entry.upper.now }
 {
-    let steps = step(words.from).zip(step(words.to));
-    let ends = end(words.lower).zip(end(words.upper));
-    match steps.zip(ends) {
-        Some(((from, to), (lower, upper))) => Some(Row {
-            from,
-            to,
-            lower,
-            upper,
-        }),
-        None => None,
-    }
+    Some(Row {
+        from: step(words.from)?,
+        to: step(words.to)?,
+        lower: end(words.lower)?,
+        upper: end(words.upper)?,
+    })
 }

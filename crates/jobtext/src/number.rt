@@ -1,17 +1,8 @@
 // The numbers that words write.
-ghost use Rattle.std.specs.Prelude.{◌≡◌, ◌≤◌, pos, neg_ℤ, IfSome};
-ghost use Rattle.jobtext.specs.Numbers.{end_above, end_below, end_of, most_above, most_below, number_up_to, step_of};
+ghost use Rattle.std.specs.Prelude.{◌≡◌, ◌≤◌, IfSome};
+ghost use Rattle.jobtext.specs.Numbers.{end_of, number_up_to, step_of};
 
 use bounds::LooseEnd;
-
-// The largest number of a u16.
-const MOST_STEP: u32 = 0xffff;
-
-// The largest number of an i32.
-const MOST_ABOVE: u32 = 0x7fff_ffff;
-
-// How far below 0 the numbers of an i32 reach.
-const MOST_BELOW: u32 = 0x8000_0000;
 
 // The end that a lone minus sign stands for.
 const ABSENT: LooseEnd = LooseEnd {
@@ -29,12 +20,11 @@ pub(crate) fn decimal(word: &[u8], most: u32) -> Option<u32>
     }
     let mut value: u64 = 0;
     for digit in word {
-        let digit = *digit;
-        if digit < b'0' || digit > b'9' {
+        if !digit.is_ascii_digit() {
             return None;
         }
-        value = value * 10 + (digit - b'0') as u64;
-        if value > most as u64 {
+        value = value * 10 + u64::from(*digit - b'0');
+        if value > u64::from(most) {
             return None;
         }
     }
@@ -45,53 +35,20 @@ pub(crate) fn decimal(word: &[u8], most: u32) -> Option<u32>
 pub(crate) fn step(word: &[u8]) -> Option<u16>
     ensures { result ≡ step_of word.now }
 {
-    match decimal(word, MOST_STEP) {
-        Some(number) => Some(number as u16),
-        None => None,
-    }
+    decimal(word, u16::MAX as u32).map(|number| number as u16)
 }
 
 /// The end of a bound that a word writes: absent for a lone minus sign, else a number that fits an i32.
 pub(crate) fn end(word: &[u8]) -> Option<LooseEnd>
     ensures { result ≡ end_of word.now }
 {
-    match word {
-        [b'-'] => Some(ABSENT),
-        [b'-', digits @ ..] => end_below(digits),
-        _ => end_above(word),
-    }
-}
-
-// The end that a number without a sign writes.
-fn end_above(word: &[u8]) -> Option<LooseEnd>
-    ensures { result ≡ end_above (number_up_to most_above word.now) }
-{
-    match decimal(word, MOST_ABOVE) {
-        Some(number) => Some(LooseEnd {
-            present: true,
-            value: number as i32,
-        }),
-        None => None,
-    }
-}
-
-// The end that the digits behind a minus sign write.
-fn end_below(digits: &[u8]) -> Option<LooseEnd>
-    ensures { result ≡ end_below (number_up_to most_below digits.now) }
-{
-    match decimal(digits, MOST_BELOW) {
-        Some(number) => Some(LooseEnd {
-            present: true,
-            value: negated(number),
-        }),
-        None => None,
-    }
-}
-
-// A number below 0.
-fn negated(number: u32) -> i32
-    requires { number ≤ most_below }
-    ensures { result ≡ neg_ℤ (pos number) }
-{
-    -(number as i64) as i32
+    let value = match word {
+        [b'-'] => return Some(ABSENT),
+        [b'-', digits @ ..] => -(decimal(digits, i32::MIN.unsigned_abs())? as i64),
+        _ => decimal(word, i32::MAX as u32)? as i64,
+    };
+    Some(LooseEnd {
+        present: true,
+        value: value as i32,
+    })
 }

@@ -30,10 +30,7 @@ pub(crate) fn only_word(text: &[u8]) -> Option<&[u8]>
     ensures { MatchOption result (length (words text.now) ≢ 1) (λ w. words text.now ≡ w.now ∷ []) }
 {
     let word = first_word(text)?;
-    match first_word(word.rest) {
-        Some(_) => None,
-        None => Some(word.piece),
-    }
+    first_word(word.rest).is_none().then_some(word.piece)
 }
 
 /// The words of a text that has just four.
