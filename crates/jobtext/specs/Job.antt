@@ -1,5 +1,6 @@
 -- What the text of a job says: its number of steps and its rows, or the number of its first wrong line.
-use Rattle.std.specs.Prelude.{◌≡◌, ℕ, ◌+◌, cond, List, [], ◌∷◌, length, Ok, Err, vec_items, Result, nat_lt}
+use Rattle.std.specs.Prelude.{◌≡◌, ℕ, ◌+◌, cond, List, [], ◌∷◌, ◌++◌, length, codes, Ok, Err, vec_items, Result, nat_lt}
+use Rattle.std.specs.Fmt.{decimal}
 use Rattle.bounds.specs.declared.row.Row.{Row}
 use Rattle.jobtext.specs.declared.job.Job.{Job}
 use Rattle.jobtext.specs.declared.job.TextError.{TextError}
@@ -7,12 +8,9 @@ use Rattle.jobtext.specs.declared.job.TextError.TheVariants.{TooLong, Line as Wr
 use Rattle.jobtext.specs.declared.line.Line.{Line}
 use Rattle.jobtext.specs.declared.line.Line.TheVariants.{Blank, Steps, Bound}
 use Rattle.jobtext.specs.declared.line.NotALine.{NotALine}
+use Rattle.jobtext.specs.Limits.{most_bytes}
 use Rattle.jobtext.specs.Line.{line_of}
 use Rattle.jobtext.specs.Words.{lines}
-
--- no longer text is read
-abbrev pub most_bytes : ℕ
-most_bytes = 1048576
 
 -- a job, a wrong line by its number, or too many bytes
 pub data Said : Type 0 where
@@ -60,3 +58,9 @@ Reports said (Ok j) = said ≡ job j.steps (vec_items j.rows)
 Reports said (Err (WrongLine k)) = said ≡ bad k
 Reports said (Err TooLong) = said ≡ too_long
 Reports said (Err Memory) = Unit {0}
+
+-- what is told of an error
+abbrev pub error_text : TextError → List ℕ
+error_text TooLong = codes "error: more than " ++ decimal most_bytes ++ codes " bytes"
+error_text (WrongLine k) = codes "error at line " ++ decimal k
+error_text Memory = codes "error: not enough memory"

@@ -1,12 +1,16 @@
 // A whole job: the line of the number of steps, and then the lines of the bounds.
-ghost use Rattle.std.specs.Prelude.{◌≡◌, ◌+◌, ◌≤◌, length, MatchResult};
-ghost use Rattle.jobtext.specs.Job.{Reports, bad, header_from, job_said, most_bytes, rows_from};
+ghost use Rattle.std.specs.Prelude.{◌≡◌, ◌+◌, ◌≤◌, Some, length, MatchResult};
+ghost use Rattle.jobtext.specs.Job.{Reports, bad, error_text, header_from, job_said, rows_from};
+ghost use Rattle.jobtext.specs.Limits.{most_bytes};
+ghost use Rattle.jobtext.specs.declared.job.TextError.TheVariants.{Memory};
 ghost use Rattle.jobtext.specs.Words.{lines};
 
 use crate::cut::{Stop, cut_at};
 use crate::line::{Line, read_line};
 use bounds::Row;
-use std::alloc::Global;
+use std::alloc::{AllocFailed, Global};
+use std::error::Error;
+use std::fmt;
 
 /// A longer text is refused.
 pub const MOST_BYTES: usize = 1_048_576;
@@ -19,7 +23,7 @@ pub struct Job {
 }
 
 /// Why a text is no job.
-#[derive(Clone, Copy)]
+#[derive(Clone, Copy, PartialEq, Eq, Debug)]
 pub enum TextError {
     /// It has more than `MOST_BYTES` bytes.
     TooLong,
@@ -28,6 +32,28 @@ pub enum TextError {
     Line(usize),
     /// There is not enough memory for the rows.
     Memory,
+}
+
+impl fmt::Display for TextError {
+    ghost output = { λ e. Some (error_text e) };
+
+    fn fmt<W: fmt::Write>(&self, f: &mut fmt::Formatter<W>) -> fmt::Result {
+        match self {
+            TextError::TooLong => write!(f, "error: more than {MOST_BYTES} bytes"),
+            TextError::Line(number) => write!(f, "error at line {number}"),
+            TextError::Memory => write!(f, "error: not enough memory"),
+        }
+    }
+}
+
+impl Error for TextError {}
+
+impl<T: Drop> From<AllocFailed<T>> for TextError {
+    ghost from_gives = { λ _ e. e ≡ Memory };
+
+    fn from(_error: AllocFailed<T>) -> TextError {
+        Self::Memory
+    }
 }
 
 // What stands before the bounds: the number of steps; then the text behind that line, and the number of its first line.
@@ -99,9 +125,7 @@ fn read_rows(heap: Global, header: Header<'_>) -> Result<Job, TextError>
             Line::Blank => {}
             Line::Steps(_) => return Err(TextError::Line(number)),
             Line::Bound(row) => {
-                let Ok(()) = rows.push(row) else {
-                    return Err(TextError::Memory);
-                };
+                rows.push(row)?;
             }
         }
         number += 1;

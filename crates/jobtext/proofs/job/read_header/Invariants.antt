@@ -1,5 +1,6 @@
 use Rattle.std.proofs.Common.{◌≡◌, ◌+◌, ◌≤◌, length}
-use Rattle.jobtext.specs.Job.{header_from, most_bytes}
+use Rattle.jobtext.specs.Job.{header_from}
+use Rattle.jobtext.specs.Limits.{most_bytes}
 use Rattle.jobtext.specs.Words.{lines}
 use Rattle.jobtext.proofs.job.read_header.Given as goal
 

@@ -1,5 +1,6 @@
 use Rattle.std.proofs.Common.{◌≡◌, ◌+◌, ◌≤◌, length, vec_items}
-use Rattle.jobtext.specs.Job.{rows_from, most_bytes}
+use Rattle.jobtext.specs.Job.{rows_from}
+use Rattle.jobtext.specs.Limits.{most_bytes}
 use Rattle.jobtext.specs.Words.{lines}
 use Rattle.jobtext.proofs.Collecting.{with_rows}
 use Rattle.jobtext.proofs.job.read_rows.Given as goal
