@@ -1,5 +1,3 @@
 -- The lemmas of this crate.
 mod Cutting
 mod Digits
-mod Saying
-mod Collecting

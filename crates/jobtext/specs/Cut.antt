@@ -1,28 +1,31 @@
--- Where a text is cut: at the first byte of a kind.
-use Rattle.std.specs.Prelude.{ℕ, suc, Bool, cond, not, ◌||◌, List, [], ◌∷◌, take, drop, ◌==◌}
-use Rattle.jobtext.specs.declared.cut.Stop.{Stop}
-use Rattle.jobtext.specs.declared.cut.Stop.TheVariants.{LineEnd, Comment, Blank, NoBlank}
+-- Where a text is cut: at the first byte that passes a test.
+use Rattle.std.specs.Prelude.{◌≡◌, ℕ, Bool, ◌||◌, List, ◌==◌}
+use Rattle.std.specs.List.{position_or_len, before_first, after_first}
+
+-- a line feed
+abbrev pub is_line_end : ℕ → Bool
+is_line_end c = c == 10
+
+-- the sign # of a comment
+abbrev pub is_comment : ℕ → Bool
+is_comment c = c == 35
 
 -- a space, a tab or a carriage return
 abbrev pub is_blank : ℕ → Bool
 is_blank c = c == 32 || (c == 9 || c == 13)
 
--- a byte is of the kind: a line feed; the sign # of a comment; a blank; no blank
-abbrev pub is_stop : Stop → ℕ → Bool
-is_stop LineEnd c = c == 10
-is_stop Comment c = c == 35
-is_stop Blank c = is_blank c
-is_stop NoBlank c = not (is_blank c)
+-- each result of a call, where `gives c r` says that a call at the byte c may give r, is what the test gives
+abbrev pub Answers : (ℕ → Bool → Type 0) → (ℕ → Bool) → Type 0
+Answers gives test = (c : ℕ) (r : Bool) → gives c r → r ≡ test c
 
--- the place of the first byte of a kind, or the length of the text
-abbrev pub stop_place : Stop → List ℕ → ℕ
-stop_place s [] = 0
-stop_place s (c ∷ cs) = cond (is_stop s c) 0 (suc (stop_place s cs))
+-- the place of the first byte that passes, or the length of the text
+abbrev pub stop_place : (ℕ → Bool) → List ℕ → ℕ
+stop_place test cs = position_or_len test cs
 
--- the text before the first byte of a kind
-abbrev pub first_piece : Stop → List ℕ → List ℕ
-first_piece s cs = take (stop_place s cs) cs
+-- the text before the first byte that passes
+abbrev pub first_piece : (ℕ → Bool) → List ℕ → List ℕ
+first_piece test cs = before_first test cs
 
 -- the text behind that byte
-abbrev pub after_piece : Stop → List ℕ → List ℕ
-after_piece s cs = drop (suc (stop_place s cs)) cs
+abbrev pub after_piece : (ℕ → Bool) → List ℕ → List ℕ
+after_piece test cs = after_first test cs

@@ -59,6 +59,11 @@ Reports said (Err (WrongLine k)) = said ≡ bad k
 Reports said (Err TooLong) = said ≡ too_long
 Reports said (Err Memory) = Unit {0}
 
+-- the number of steps was read of lines that said this, and line k and those below it are left; or their first wrong line was told
+abbrev pub HeaderRead : Said → ℕ → List (List ℕ) → Result ℕ TextError → Type 0
+HeaderRead said k left (Ok steps) = said ≡ rows_from steps k left
+HeaderRead said k left (Err e) = (wrong : ℕ) × (e ≡ WrongLine wrong) × (said ≡ bad wrong)
+
 -- what is told of an error
 abbrev pub error_text : TextError → List ℕ
 error_text TooLong = codes "error: more than " ++ decimal most_bytes ++ codes " bytes"

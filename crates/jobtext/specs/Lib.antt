@@ -2,6 +2,7 @@
 pub mod Limits
 pub mod Cut
 pub mod Words
+pub mod Lines
 pub mod Numbers
 pub mod Line
 pub mod Job

@@ -1,12 +1,11 @@
 // A whole job: the line of the number of steps, and then the lines of the bounds.
-ghost use Rattle.std.specs.Prelude.{◌≡◌, ◌+◌, ◌≤◌, Some, length, MatchResult};
-ghost use Rattle.jobtext.specs.Job.{Reports, bad, error_text, header_from, job_said, rows_from};
-ghost use Rattle.jobtext.specs.Limits.{most_bytes};
+ghost use Rattle.std.specs.Prelude.{◌≡◌, Some};
+ghost use Rattle.jobtext.specs.Job.{HeaderRead, Reports, error_text, header_from, job_said, rows_from};
 ghost use Rattle.jobtext.specs.declared.job.TextError.TheVariants.{Memory};
 ghost use Rattle.jobtext.specs.Words.{lines};
 
-use crate::cut::{Stop, cut_at};
 use crate::line::{Line, read_line};
+use crate::lines::Lines;
 use bounds::Row;
 use std::alloc::{AllocFailed, Global};
 use std::error::Error;
@@ -56,14 +55,6 @@ impl<T: Drop> From<AllocFailed<T>> for TextError {
     }
 }
 
-// What stands before the bounds: the number of steps; then the text behind that line, and the number of its first line.
-#[derive(Clone, Copy)]
-struct Header<'a> {
-    steps: u16,
-    number: usize,
-    rest: &'a [u8],
-}
-
 /// Reads the text of a job.
 pub fn read_job(heap: Global, text: &[u8]) -> Result<Job, TextError>
     ensures { Reports (job_said text.now) result }
@@ -71,64 +62,37 @@ pub fn read_job(heap: Global, text: &[u8]) -> Result<Job, TextError>
     if text.len() > MOST_BYTES {
         return Err(TextError::TooLong);
     }
-    match read_header(text) {
-        Ok(header) => read_rows(heap, header),
-        Err(number) => Err(TextError::Line(number)),
-    }
+    let mut lines = Lines::new(text);
+    let steps = read_header(&mut lines)?;
+    read_rows(heap, steps, lines)
 }
 
-// Reads up to the line of the number of steps, or answers the number of the first wrong line.
-fn read_header(text: &[u8]) -> Result<Header<'_>, usize>
-    requires { length text.now ≤ most_bytes }
-    ensures { MatchResult result (λ h. (header_from 1 (lines text.now) ≡ rows_from h.steps h.number (lines h.rest.now)) × (h.number + length h.rest.now ≤ most_bytes + 1)) (λ k. header_from 1 (lines text.now) ≡ bad k) }
+// Reads up to the line of the number of steps.
+fn read_header(unread: &mut Lines<'_>) -> Result<u16, TextError>
+    ensures { HeaderRead (header_from unread.old.number (lines unread.old.rest.now)) unread.new.number (lines unread.new.rest.now) result }
 {
-    let mut number = 1;
-    let mut rest = text;
-    while !rest.is_empty() {
-        let line = cut_at(rest, Stop::LineEnd);
-        rest = line.rest;
-        let Ok(said) = read_line(line.piece) else {
-            return Err(number);
-        };
-        match said {
-            Line::Blank => number += 1,
-            Line::Steps(steps) => {
-                number += 1;
-                return Ok(Header {
-                    steps,
-                    number,
-                    rest,
-                });
-            }
-            Line::Bound(_) => return Err(number),
+    // Behind a `for` over `&mut *unread` a proof knows nothing of the lines that are left: `returns` and `returns-in-Steps` stayed open.
+    while let Some((number, line)) = unread.next() {
+        match read_line(line).map_err(|_| TextError::Line(number))? {
+            Line::Blank => {}
+            Line::Steps(steps) => return Ok(steps),
+            Line::Bound(_) => return Err(TextError::Line(number)),
         }
     }
-    Err(number)
+    Err(TextError::Line(unread.number()))
 }
 
 // Reads the bounds behind the line of the number of steps.
-fn read_rows(heap: Global, header: Header<'_>) -> Result<Job, TextError>
-    requires { header.number + length header.rest.now ≤ most_bytes + 1 }
-    ensures { Reports (rows_from header.entry.steps header.entry.number (lines header.entry.rest.now)) result }
+fn read_rows(heap: Global, steps: u16, unread: Lines<'_>) -> Result<Job, TextError>
+    ensures { Reports (rows_from steps unread.entry.number (lines unread.entry.rest.now)) result }
 {
-    let steps = header.steps;
-    let mut number = header.number;
-    let mut rest = header.rest;
     let mut rows = Vec::new(heap);
-    while !rest.is_empty() {
-        let line = cut_at(rest, Stop::LineEnd);
-        rest = line.rest;
-        let Ok(said) = read_line(line.piece) else {
-            return Err(TextError::Line(number));
-        };
-        match said {
+    for (number, line) in unread {
+        match read_line(line).map_err(|_| TextError::Line(number))? {
             Line::Blank => {}
             Line::Steps(_) => return Err(TextError::Line(number)),
-            Line::Bound(row) => {
-                rows.push(row)?;
-            }
+            Line::Bound(row) => rows.push(row)?,
         }
-        number += 1;
     }
     Ok(Job { steps, rows })
 }

@@ -4,6 +4,7 @@
 mod cut;
 pub mod job;
 pub mod line;
+mod lines;
 mod number;
 mod word;
 

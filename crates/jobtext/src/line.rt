@@ -1,11 +1,11 @@
 // What one line of a job says.
 ghost use Rattle.std.specs.Prelude.{◌≡◌};
-ghost use Rattle.jobtext.specs.Line.{bound_said, line_of, row_of, steps_said};
+ghost use Rattle.jobtext.specs.Line.{bound_of, line_of, steps_of};
 ghost use Rattle.jobtext.specs.Words.{words};
 
-use crate::cut::{Stop, cut_at};
+use crate::cut::cut_at;
 use crate::number::{end, step};
-use crate::word::{BoundWords, first_word, four_words, only_word};
+use crate::word::Words;
 use bounds::Row;
 
 // The first word of a line that gives the number of steps.
@@ -33,43 +33,35 @@ pub struct NotALine;
 pub fn read_line(line: &[u8]) -> Result<Line, NotALine>
     ensures { result ≡ line_of line.now }
 {
-    let text = cut_at(line, Stop::Comment).piece;
-    let Some(key) = first_word(text) else {
-        return Ok(Line::Blank);
-    };
-    if key.piece == STEPS {
-        steps_line(key.rest)
-    } else if key.piece == BOUND {
-        bound_line(key.rest)
-    } else {
-        Err(NotALine)
+    let mut words = Words(cut_at(line, |byte| byte == b'#').piece);
+    match words.next() {
+        None => Ok(Line::Blank),
+        Some(key) if key == STEPS => steps(words).map(Line::Steps).ok_or(NotALine),
+        Some(key) if key == BOUND => bound(words).map(Line::Bound).ok_or(NotALine),
+        Some(_) => Err(NotALine),
     }
 }
 
-// Reads the line of the number of steps, behind its first word.
-fn steps_line(text: &[u8]) -> Result<Line, NotALine>
-    ensures { result ≡ steps_said (words text.now) }
+// The number of steps that a line gives by its words behind the first.
+fn steps(mut rest: Words<'_>) -> Option<u16>
+    ensures { result ≡ steps_of (words rest.entry.0.now) }
 {
-    let word = only_word(text).ok_or(NotALine)?;
-    step(word).map(Line::Steps).ok_or(NotALine)
+    let steps = step(rest.next()?)?;
+    rest.next().is_none().then_some(steps)
 }
 
-// Reads the line of a bound, behind its first word.
-fn bound_line(text: &[u8]) -> Result<Line, NotALine>
-    ensures { result ≡ bound_said (words text.now) }
+// The bound that a line gives by its words behind the first.
+fn bound(mut rest: Words<'_>) -> Option<Row>
+    ensures { result ≡ bound_of (words rest.entry.0.now) }
 {
-    let words = four_words(text).ok_or(NotALine)?;
-    row(words).map(Line::Bound).ok_or(NotALine)
-}
-
-// The row that the words of a bound write, if each of them writes its part.
-fn row(words: BoundWords<'_>) -> Option<Row>
-    ensures { result ≡ row_of words.entry.from.now words.entry.to.now words.entry.lower.now words.entry.upper.now }
-{
-    Some(Row {
-        from: step(words.from)?,
-        to: step(words.to)?,
-        lower: end(words.lower)?,
-        upper: end(words.upper)?,
+    let from = step(rest.next()?)?;
+    let to = step(rest.next()?)?;
+    let lower = end(rest.next()?)?;
+    let upper = end(rest.next()?)?;
+    rest.next().is_none().then_some(Row {
+        from,
+        to,
+        lower,
+        upper,
     })
 }

@@ -1,11 +1,10 @@
-use Rattle.std.proofs.Common.{◌≡◌, ◌+◌, ◌≤◌, length}
+use Rattle.std.proofs.Common.{◌≡◌, length}
 use Rattle.jobtext.specs.Job.{header_from}
-use Rattle.jobtext.specs.Limits.{most_bytes}
 use Rattle.jobtext.specs.Words.{lines}
 use Rattle.jobtext.proofs.job.read_header.Given as goal
 
-abbrev pub invariant-loop-rest : goal.invariant-loop-rest
-invariant-loop-rest l = (header_from l.number (lines l.rest) ≡ header_from 1 (lines l.text)) × (l.number + length l.rest ≤ most_bytes + 1)
+abbrev pub invariant-loop-number : goal.invariant-loop-number
+invariant-loop-number l = header_from l.unread.number (lines l.unread.rest.now) ≡ header_from l.initial.unread.number (lines l.initial.unread.rest.now)
 
-abbrev pub decreases-loop-rest : goal.decreases-loop-rest
-decreases-loop-rest l = length l.rest
+abbrev pub decreases-loop-number : goal.decreases-loop-number
+decreases-loop-number l = length l.unread.rest.now

@@ -1,16 +1,30 @@
-use Rattle.std.proofs.lemmas.Slice.Eq.{slice_eq-Decides}
-use Rattle.jobtext.proofs.Saying.{says_nothing, says_steps, says_bound, says_neither}
+use Rattle.std.proofs.Common.{◌≡◌, ℕ, List, [], sym, ap, ◌∙◌, rules, tests}
+use Rattle.jobtext.specs.Cut.{is_comment, first_piece}
+use Rattle.jobtext.specs.Line.{words_say, line_of}
+use Rattle.jobtext.specs.Words.{words}
 use Rattle.jobtext.proofs.line.read_line.Goals as goal
-use Rattle.std.proofs.lemmas.Bool.Decides.{Decides-eqb}
 
-pub returns-in_default : goal.returns-in_default
-returns-in_default c = says_nothing c.args.line.now c.cut_at.result.piece.now c.cut_at.ensures.piece c.in_default.ensures
+-- a line whose text without the comment has these words says what they say
+said : (line text : List ℕ) (ws : List (List ℕ)) → text ≡ first_piece is_comment line → words text ≡ ws → words_say ws ≡ line_of line
+unfolding line_of
+said line text ws piece e = ap words_say (sym e ∙ ap words piece)
 
-pub returns-then-eq : goal.returns-then-eq
-returns-then-eq c = says_steps c.args.line.now c.cut_at.result.piece.now c.cut_at.ensures.piece c.in-Some.key.piece.now _ c.in-Some.ensures _ (slice_eq-Decides Decides-eqb _ _ _ c.eq.ensures) c.if-eq.true _ c.steps_line.ensures
+pub returns-in-None : goal.returns-in-None
+returns-in-None c = said c.args.line.now _ [] (c.cut_at.ensures is_comment (λ b r k. search (rules, tests))).0 c.in-None.ensures.steps.0
 
-pub returns-then-eq-2 : goal.returns-then-eq-2
-returns-then-eq-2 c = says_bound c.args.line.now c.cut_at.result.piece.now c.cut_at.ensures.piece c.in-Some.key.piece.now _ c.in-Some.ensures _ _ (slice_eq-Decides Decides-eqb _ _ _ c.eq.ensures) c.if-eq.false (slice_eq-Decides Decides-eqb _ _ _ c.eq-else-eq.ensures) c.if-eq-2.true _ c.bound_line.ensures
+pub returns-in-Some : goal.returns-in-Some
+returns-in-Some c =
+    let e = said c.args.line.now _ _ (c.cut_at.ensures is_comment (λ b r k. search (rules, tests))).0 c.in-Some.ensures.steps in
+    let f = rw (← c.if-eq.ensures) at e in
+    search rules
 
-pub returns-else-eq-2 : goal.returns-else-eq-2
-returns-else-eq-2 c = says_neither c.args.line.now c.cut_at.result.piece.now c.cut_at.ensures.piece c.in-Some.key.piece.now _ c.in-Some.ensures _ _ (slice_eq-Decides Decides-eqb _ _ _ c.eq.ensures) c.if-eq.false (slice_eq-Decides Decides-eqb _ _ _ c.eq-else-eq.ensures) c.if-eq-2.false
+pub returns-in-Some-2 : goal.returns-in-Some-2
+returns-in-Some-2 c =
+    let e = said c.args.line.now _ _ (c.cut_at.ensures is_comment (λ b r k. search (rules, tests))).0 c.in-Some.ensures.steps in
+    let f = rw (← c.if-eq.ensures, ← c.if-eq-2.ensures) at e in
+    search rules
+
+pub returns-in-Some-3 : goal.returns-in-Some-3
+returns-in-Some-3 c =
+    let e = said c.args.line.now _ _ (c.cut_at.ensures is_comment (λ b r k. search (rules, tests))).0 c.in-Some.ensures.steps in
+    rw (← c.if-eq.ensures, ← c.if-eq-2.ensures) at e
