@@ -1,7 +1,8 @@
 -- The numbers that words write.
-use Rattle.std.specs.Prelude.{ℕ, ◌+◌, ◌-◌, ◌*◌, Bool, true, false, cond, ◌&&◌, List, [], ◌∷◌, drop, ℤ, pos, neg_ℤ, Some, None, Option, ◌==◌, nat_le, slice_index}
+use Rattle.std.specs.Prelude.{ℕ, ◌+◌, ◌-◌, ◌*◌, Bool, cond, ◌&&◌, List, [], ◌∷◌, drop, pos, neg_ℤ, Some, None, Option, ◌==◌, nat_le, slice_index}
 use Rattle.std.specs.Option.{option_map}
 use Rattle.bounds.specs.declared.row.LooseEnd.{LooseEnd}
+use Rattle.bounds.specs.declared.row.LooseEnd.TheVariants.{Present, Absent}
 
 -- a decimal digit
 abbrev pub is_digit : ℕ → Bool
@@ -36,19 +37,15 @@ most_below = 2147483648
 
 -- an end that is absent
 abbrev pub absent : LooseEnd
-absent = record { present = false; value = pos 0 }
-
--- an end that is present
-abbrev pub present_at : ℤ → LooseEnd
-present_at z = record { present = true; value = z }
+absent = Absent (pos 0)
 
 -- the end at a number
 abbrev pub end_above : Option ℕ → Option LooseEnd
-end_above o = option_map (λ n. present_at (pos n)) o
+end_above o = option_map (λ n. Present (pos n)) o
 
 -- the end at a number below 0
 abbrev pub end_below : Option ℕ → Option LooseEnd
-end_below o = option_map (λ n. present_at (neg_ℤ (pos n))) o
+end_below o = option_map (λ n. Present (neg_ℤ (pos n))) o
 
 -- the end that stands behind a minus sign: none is an absent one
 abbrev pub behind_minus : List ℕ → Option LooseEnd

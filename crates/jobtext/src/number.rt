@@ -4,12 +4,6 @@ ghost use Rattle.jobtext.specs.Numbers.{end_of, number_up_to, step_of};
 
 use bounds::LooseEnd;
 
-// The end that a lone minus sign stands for.
-const ABSENT: LooseEnd = LooseEnd {
-    present: false,
-    value: 0,
-};
-
 /// The number that a word writes in decimal digits, if the word is such a number and not above `most`.
 pub(crate) fn decimal(word: &[u8], most: u32) -> Option<u32>
     ensures value { result ≡ number_up_to most word.now }
@@ -43,12 +37,9 @@ pub(crate) fn end(word: &[u8]) -> Option<LooseEnd>
     ensures { result ≡ end_of word.now }
 {
     let value = match word {
-        [b'-'] => return Some(ABSENT),
-        [b'-', digits @ ..] => -(decimal(digits, i32::MIN.unsigned_abs())? as i64),
-        _ => decimal(word, i32::MAX as u32)? as i64,
+        [b'-'] => return Some(LooseEnd::Absent(0)),
+        [b'-', digits @ ..] => -i64::from(decimal(digits, i32::MIN.unsigned_abs())?),
+        _ => i64::from(decimal(word, i32::MAX as u32)?),
     };
-    Some(LooseEnd {
-        present: true,
-        value: value as i32,
-    })
+    Some(LooseEnd::Present(value as i32))
 }
