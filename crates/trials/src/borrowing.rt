@@ -16,12 +16,8 @@ pub fn write_other_bytes_while_open(bytes: &[u8], out: &mut [u8]) -> Option<u16>
     ensures answer { elim result [ Some steps ↦ (rewrite_refusal bytes.now (length out.old) ≡ None) × (steps ≡ steps_of bytes.now) | None ↦ is_some (rewrite_refusal bytes.now (length out.old)) ≡ true ] }
     ensures out { elim result [ Some steps ↦ Holds (card_meaning bytes.now) out.old out.new | None ↦ out.new ≡ out.old ] }
 {
-    let Ok(card) = Card::open(bytes) else {
-        return None;
-    };
-    let Ok(_) = write_card(&card, out) else {
-        return None;
-    };
+    let card = Card::open(bytes).ok()?;
+    write_card(&card, out).ok()?;
     Some(card.steps())
 }
 
@@ -30,12 +26,8 @@ pub fn write_same_bytes_after_last_use<S: Source>(bytes: &mut [u8], source: &S) 
     ensures answer { elim result [ Some steps ↦ (open_refusal bytes.old ≡ None) × (write_refusal (S.meaning source.now) (length bytes.old) ≡ None) × (steps ≡ steps_of bytes.old) | None ↦ (is_some (open_refusal bytes.old) ≡ true) ⊎ (is_some (write_refusal (S.meaning source.now) (length bytes.old)) ≡ true) ] }
     ensures bytes { elim result [ Some steps ↦ Holds (S.meaning source.now) bytes.old bytes.new | None ↦ bytes.new ≡ bytes.old ] }
 {
-    let Ok(card) = Card::open(bytes) else {
-        return None;
-    };
+    let card = Card::open(bytes).ok()?;
     let steps = card.steps();
-    let Ok(_) = write_card(source, bytes) else {
-        return None;
-    };
+    write_card(source, bytes).ok()?;
     Some(steps)
 }

@@ -1,30 +1,20 @@
 // Examples of cards: what opens, what is read, and what is refused.
-use bounds::{Fault, Item, NoSuchPlace, Source, SpoiledItem, first_spoiled};
+use bounds::{Fault, NoSuchPlace, Reason, Source, SpoiledItem, first_spoiled};
 use card::{Card, CardRefusal};
 use std::test::Fail;
 
 #[test]
 fn one_record(rt: HostRuntime) -> Result<(), Fail> {
     let bytes: [u8; 10] = [0x10, 0x40, 0x10, 0x00, 0x1c, 0x00, 0x01, 0x40, 0x00, 0x14];
-    let Ok(card) = Card::open(&bytes) else {
-        return Err(Fail::new("not opened"));
-    };
+    let card = Card::open(&bytes)?;
     assert_eq!(rt; card.steps(), 2);
     assert_eq!(rt; card.count(), 1);
-    let Ok(item) = card.item(0) else {
-        return Err(Fail::new("no item"));
-    };
-    let Item::Bound(bound) = item else {
-        return Err(Fail::new("spoiled"));
-    };
+    let bound = card.item(0)??;
     assert_eq!(rt; bound.from_step(), 0);
     assert_eq!(rt; bound.to_step(), 1);
     assert_eq!(rt; bound.lower_end(), Some(10));
     assert_eq!(rt; bound.upper_end(), Some(20));
-    let Err(past) = card.item(1) else {
-        return Err(Fail::new("an item past the end"));
-    };
-    assert_eq!(rt; past, NoSuchPlace);
+    assert_eq!(rt; card.item(1), Err(NoSuchPlace));
     Ok(())
 }
 
@@ -35,26 +25,14 @@ fn negative_and_absent_ends(rt: HostRuntime) -> Result<(), Fail> {
         0x10, 0x80, 0x20, 0x00, 0x1b, 0xff, 0xff, 0xa0, 0x00, 0x00, 0x08, 0x04, 0x00, 0x00, 0x10,
         0xbd, 0xc0,
     ];
-    let Ok(card) = Card::open(&bytes) else {
-        return Err(Fail::new("not opened"));
-    };
+    let card = Card::open(&bytes)?;
     assert_eq!(rt; card.steps(), 3);
     assert_eq!(rt; card.count(), 2);
     assert_eq!(rt; first_spoiled(&card), None);
-    let Ok(item) = card.item(0) else {
-        return Err(Fail::new("no item"));
-    };
-    let Item::Bound(first) = item else {
-        return Err(Fail::new("spoiled"));
-    };
+    let first = card.item(0)??;
     assert_eq!(rt; first.lower_end(), Some(-3));
     assert_eq!(rt; first.upper_end(), None);
-    let Ok(item) = card.item(1) else {
-        return Err(Fail::new("no second item"));
-    };
-    let Item::Bound(second) = item else {
-        return Err(Fail::new("second spoiled"));
-    };
+    let second = card.item(1)??;
     assert_eq!(rt; second.from_step(), 2);
     assert_eq!(rt; second.lower_end(), None);
     assert_eq!(rt; second.upper_end(), Some(-1_000_000));
@@ -65,9 +43,7 @@ fn negative_and_absent_ends(rt: HostRuntime) -> Result<(), Fail> {
 fn step_not_below(rt: HostRuntime) -> Result<(), Fail> {
     // 2 steps, and a record from 0 to 2.
     let bytes: [u8; 10] = [0x10, 0x40, 0x10, 0x00, 0x2c, 0x00, 0x01, 0x40, 0x00, 0x14];
-    let Ok(card) = Card::open(&bytes) else {
-        return Err(Fail::new("not opened"));
-    };
+    let card = Card::open(&bytes)?;
     assert_eq!(rt; Fault::NoSuchStep.number(), 3);
     assert_eq!(rt;
         first_spoiled(&card),
@@ -83,9 +59,7 @@ fn step_not_below(rt: HostRuntime) -> Result<(), Fail> {
 fn end_out_of_reach(rt: HostRuntime) -> Result<(), Fail> {
     // The upper end is 1,000,001.
     let bytes: [u8; 10] = [0x10, 0x40, 0x10, 0x00, 0x1c, 0x00, 0x01, 0x4f, 0x42, 0x41];
-    let Ok(card) = Card::open(&bytes) else {
-        return Err(Fail::new("not opened"));
-    };
+    let card = Card::open(&bytes)?;
     assert_eq!(rt; Fault::OutOfReach.number(), 4);
     assert_eq!(rt;
         first_spoiled(&card),
@@ -101,9 +75,7 @@ fn end_out_of_reach(rt: HostRuntime) -> Result<(), Fail> {
 fn absent_end_with_a_value(rt: HostRuntime) -> Result<(), Fail> {
     // The lower end is absent, and its field is 10.
     let bytes: [u8; 10] = [0x10, 0x40, 0x10, 0x00, 0x14, 0x00, 0x01, 0x40, 0x00, 0x14];
-    let Ok(card) = Card::open(&bytes) else {
-        return Err(Fail::new("not opened"));
-    };
+    let card = Card::open(&bytes)?;
     assert_eq!(rt; Fault::NoEnd.number(), 5);
     assert_eq!(rt;
         first_spoiled(&card),

@@ -1,7 +1,8 @@
 // Examples of compilation: what it answers, and what it leaves in the tables.
-use bounds::Rows;
+use crate::made::{GROUP, LINK, link};
+use bounds::{Reason, Rows};
 use card::{Card, WriteRefusal, write_card};
-use network::{GroupEntry, Kind, Link, Refusal, compile};
+use network::{GroupEntry, Kind, Refusal, compile};
 use std::test::Fail;
 
 // Two steps, from 0 to 1 [10, 20].
@@ -10,40 +11,14 @@ const TWO_STEPS: [u8; 10] = [0x10, 0x40, 0x10, 0x00, 0x1c, 0x00, 0x01, 0x40, 0x0
 // Two steps, from 1 to 1 [10, 20], which no timetable keeps.
 const HOPELESS: [u8; 10] = [0x10, 0x40, 0x10, 0x04, 0x1c, 0x00, 0x01, 0x40, 0x00, 0x14];
 
-// What stands in the tables before.
-const GROUP: GroupEntry = GroupEntry {
-    leader: 9,
-    offset: 9,
-};
-
-const LINK: Link = Link {
-    trigger: 9,
-    target: 9,
-    kind: Kind::Least,
-    seconds: 9,
-};
-
-fn link(kind: Kind, seconds: u32) -> Link {
-    Link {
-        trigger: 0,
-        target: 1,
-        kind,
-        seconds,
-    }
-}
-
 #[test]
 fn fills_the_front_of_the_tables(rt: HostRuntime) -> Result<(), Fail> {
     let bytes = TWO_STEPS;
-    let Ok(card) = Card::open(&bytes) else {
-        return Err(Fail::new("not opened"));
-    };
+    let card = Card::open(&bytes)?;
     let mut distances = [7; 5];
     let mut groups = [GROUP; 3];
     let mut links = [LINK; 3];
-    let Ok(compiled) = compile(&card, &mut distances, &mut groups, &mut links) else {
-        return Err(Fail::new("refused"));
-    };
+    let compiled = compile(&card, &mut distances, &mut groups, &mut links)?;
     assert_eq!(rt; compiled.groups, 2);
     assert_eq!(rt; compiled.links, 2);
     assert_eq!(rt; distances, [0, 20, -10, 0, 7]);
@@ -55,16 +30,21 @@ fn fills_the_front_of_the_tables(rt: HostRuntime) -> Result<(), Fail> {
         }
     );
     assert_eq!(rt; groups[2], GROUP);
-    assert_eq!(rt; links, [link(Kind::Most, 20), link(Kind::Least, 10), LINK]);
+    assert_eq!(rt;
+        links,
+        [
+            link(0, 1, Kind::Most, 20),
+            link(0, 1, Kind::Least, 10),
+            LINK
+        ]
+    );
     Ok(())
 }
 
 #[test]
 fn short_tables_stay_as_they_were(rt: HostRuntime) -> Result<(), Fail> {
     let bytes = TWO_STEPS;
-    let Ok(card) = Card::open(&bytes) else {
-        return Err(Fail::new("not opened"));
-    };
+    let card = Card::open(&bytes)?;
     let mut distances = [7; 4];
     let mut groups = [GROUP; 2];
     let mut links = [LINK; 1];
@@ -83,9 +63,7 @@ fn short_tables_stay_as_they_were(rt: HostRuntime) -> Result<(), Fail> {
 #[test]
 fn no_timetable_zeroes_the_distances(rt: HostRuntime) -> Result<(), Fail> {
     let bytes = HOPELESS;
-    let Ok(card) = Card::open(&bytes) else {
-        return Err(Fail::new("not opened"));
-    };
+    let card = Card::open(&bytes)?;
     let mut distances = [7; 5];
     let mut groups = [GROUP; 2];
     let mut links = [LINK; 2];

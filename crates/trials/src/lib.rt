@@ -8,6 +8,8 @@ mod cards;
 mod compiling;
 pub mod lending;
 #[cfg(test)]
+mod made;
+#[cfg(test)]
 mod queueing;
 #[cfg(test)]
 mod running;

@@ -1,24 +1,11 @@
 // Examples of runs over compiled tables, and over one made by hand.
-ghost use Rattle.std.specs.Prelude.{◌≡◌, true};
+ghost use Rattle.std.specs.Prelude.{◌≡◌};
 
-use bounds::{LooseEnd, Row, Rows};
-use network::{DueEntry, GroupEntry, Kind, Link, compile};
+use crate::made::{DUE, due, link, row};
+use bounds::{Reason, Row, Rows};
+use network::{GroupEntry, Kind, Link, compile};
 use pacer::{CueRefusal, NoSuchStep, OpenRefusal, Run, Short, WaitRefusal, Window};
 use std::test::Fail;
-
-const GROUP: GroupEntry = GroupEntry {
-    leader: 0,
-    offset: 0,
-};
-
-const LINK: Link = Link {
-    trigger: 0,
-    target: 0,
-    kind: Kind::Most,
-    seconds: 0,
-};
-
-const DUE: DueEntry = DueEntry { step: 9, upper: 9 };
 
 // Tables for four steps.
 #[derive(Drop)]
@@ -28,11 +15,16 @@ struct Tables {
     links: [Link; 12],
 }
 
-const NO_TABLES: Tables = Tables {
-    distances: [0; 16],
-    groups: [GROUP; 4],
-    links: [LINK; 12],
-};
+impl Tables {
+    // Tables that nothing stands in yet.
+    fn new() -> Tables {
+        Tables {
+            distances: [0; 16],
+            groups: [GroupEntry::default(); 4],
+            links: [Link::default(); 12],
+        }
+    }
+}
 
 // Compiles rows of so many steps, and answers the number of links.
 fn compiled(steps: u16, rows: &[Row], tables: &mut Tables) -> Result<usize, Fail> {
@@ -42,28 +34,7 @@ fn compiled(steps: u16, rows: &[Row], tables: &mut Tables) -> Result<usize, Fail
         groups,
         links,
     } = tables;
-    match compile(&source, distances, groups, links) {
-        Ok(compiled) => Ok(compiled.links),
-        Err(_) => Err(Fail::new("refused")),
-    }
-}
-
-// A row with both ends.
-fn row(from: u16, to: u16, lower: i32, upper: i32) -> Row
-    ensures { result ≡ record { from = from; to = to; lower = record { present = true; value = lower }; upper = record { present = true; value = upper } } }
-{
-    Row {
-        from,
-        to,
-        lower: LooseEnd {
-            present: true,
-            value: lower,
-        },
-        upper: LooseEnd {
-            present: true,
-            value: upper,
-        },
-    }
+    Ok(compile(&source, distances, groups, links)?.links)
 }
 
 // Both ends of a window at one second.
@@ -88,11 +59,9 @@ fn washer() -> [Row; 4] {
 
 #[test]
 fn a_deadline_holds_back_every_call(rt: HostRuntime) -> Result<(), Fail> {
-    let mut tables = NO_TABLES;
+    let mut tables = Tables::new();
     let count = compiled(4, &washer(), &mut tables)?;
-    let Ok(mut run) = Run::open(4, count, &tables.groups, &tables.links) else {
-        return Err(Fail::new("not opened"));
-    };
+    let mut run = Run::open(4, count, &tables.groups, &tables.links)?;
     assert_eq!(rt; run.cue(4, 10), Err(CueRefusal::NoSuchStep));
     assert_eq!(rt; run.cue(0, 10), Err(CueRefusal::Cued));
     assert_eq!(rt; run.cue(2, 15), Err(CueRefusal::NotReady));
@@ -108,11 +77,9 @@ fn a_deadline_holds_back_every_call(rt: HostRuntime) -> Result<(), Fail> {
 
 #[test]
 fn early_cues_leave_one_second_for_the_last_step(rt: HostRuntime) -> Result<(), Fail> {
-    let mut tables = NO_TABLES;
+    let mut tables = Tables::new();
     let count = compiled(4, &washer(), &mut tables)?;
-    let Ok(mut run) = Run::open(4, count, &tables.groups, &tables.links) else {
-        return Err(Fail::new("not opened"));
-    };
+    let mut run = Run::open(4, count, &tables.groups, &tables.links)?;
     assert_eq!(rt; run.look(0), Ok(only(0)));
     assert_eq!(rt; run.cue(1, 10), Ok(()));
     assert_eq!(rt; run.cue(2, 40), Ok(()));
@@ -126,38 +93,27 @@ fn early_cues_leave_one_second_for_the_last_step(rt: HostRuntime) -> Result<(), 
 
 #[test]
 fn late_cues_do_too(rt: HostRuntime) -> Result<(), Fail> {
-    let mut tables = NO_TABLES;
+    let mut tables = Tables::new();
     let count = compiled(4, &washer(), &mut tables)?;
-    let Ok(mut run) = Run::open(4, count, &tables.groups, &tables.links) else {
-        return Err(Fail::new("not opened"));
-    };
+    let mut run = Run::open(4, count, &tables.groups, &tables.links)?;
     let mut due = [DUE; 4];
     assert_eq!(rt; run.list(&mut due[0..2]), Err(Short));
     assert_eq!(rt; run.list(&mut due), Ok(3));
-    assert_eq!(rt; due, [entry(1, 20), entry(3, 70), entry(2, 1_000_000), DUE]);
+    assert_eq!(rt; due, [due(1, 20), due(3, 70), due(2, 1_000_000), DUE]);
     assert_eq!(rt; run.cue(1, 20), Ok(()));
     assert_eq!(rt; run.cue(2, 60), Ok(()));
     assert_eq!(rt; run.look(3), Ok(only(70)));
     assert_eq!(rt; run.list(&mut due), Ok(1));
-    assert_eq!(rt; due, [entry(3, 70), entry(3, 70), entry(2, 1_000_000), DUE]);
+    assert_eq!(rt; due, [due(3, 70), due(3, 70), due(2, 1_000_000), DUE]);
     Ok(())
-}
-
-// A due entry.
-fn entry(step: u16, upper: u64) -> DueEntry
-    ensures { result ≡ record { step = step; upper = upper } }
-{
-    DueEntry { step, upper }
 }
 
 #[test]
 fn steps_tied_at_no_distance_start_in_one_second(rt: HostRuntime) -> Result<(), Fail> {
     let rows = [row(0, 1, 5, 10), row(1, 2, 0, 0)];
-    let mut tables = NO_TABLES;
+    let mut tables = Tables::new();
     let count = compiled(3, &rows, &mut tables)?;
-    let Ok(mut run) = Run::open(3, count, &tables.groups, &tables.links) else {
-        return Err(Fail::new("not opened"));
-    };
+    let mut run = Run::open(3, count, &tables.groups, &tables.links)?;
     assert_eq!(rt; run.cue(2, 4), Err(CueRefusal::Early));
     assert_eq!(rt; run.cue(2, 5), Ok(()));
     assert_eq!(rt; run.wait(6), Err(WaitRefusal::Late));
@@ -167,41 +123,25 @@ fn steps_tied_at_no_distance_start_in_one_second(rt: HostRuntime) -> Result<(), 
 
 #[test]
 fn steps_without_a_bound_may_wait_to_the_end(rt: HostRuntime) -> Result<(), Fail> {
-    let mut tables = NO_TABLES;
+    let mut tables = Tables::new();
     let count = compiled(2, &[], &mut tables)?;
-    let Ok(mut run) = Run::open(2, count, &tables.groups, &tables.links) else {
-        return Err(Fail::new("not opened"));
-    };
+    let mut run = Run::open(2, count, &tables.groups, &tables.links)?;
     assert_eq!(rt; run.wait(1_000_000), Ok(()));
     assert_eq!(rt; run.wait(1_000_001), Err(WaitRefusal::Late));
     assert_eq!(rt; run.wait(4_294_967_295), Err(WaitRefusal::Late));
     Ok(())
 }
 
-// A link made by hand.
-fn link(trigger: u8, target: u8, kind: Kind, seconds: u32) -> Link
-    ensures { result ≡ record { trigger = trigger; target = target; kind = kind; seconds = seconds } }
-{
-    Link {
-        trigger,
-        target,
-        kind,
-        seconds,
-    }
-}
-
 #[test]
 fn links_made_by_hand_stand_in_any_order(rt: HostRuntime) -> Result<(), Fail> {
-    let groups = [GROUP, leader(1), leader(2)];
+    let groups = [leader(0), leader(1), leader(2)];
     let links = [
         link(1, 2, Kind::Least, 30),
         link(0, 1, Kind::Most, 20),
         link(1, 2, Kind::Most, 40),
         link(0, 1, Kind::Least, 10),
     ];
-    let Ok(mut run) = Run::open(3, 4, &groups, &links) else {
-        return Err(Fail::new("not opened"));
-    };
+    let mut run = Run::open(3, 4, &groups, &links)?;
     assert_eq!(rt; run.cue(2, 20), Err(CueRefusal::NotReady));
     assert_eq!(rt; run.cue(1, 10), Ok(()));
     assert_eq!(rt;
@@ -227,28 +167,22 @@ fn leader(step: u8) -> GroupEntry
 
 // Whether a run of three steps and so many links is refused with 8.
 fn is_unfit<'x>(groups: &'x [GroupEntry], links: &'x [Link], count: usize) -> bool {
-    match Run::open(3, count, groups, links) {
-        Ok(_run) => false,
-        Err(refusal) => refusal.number() == 8,
-    }
+    Run::open(3, count, groups, links).is_err_and(|refusal| refusal.number() == 8)
 }
 
 #[test]
-fn tables_that_do_not_fit_are_not_opened(rt: HostRuntime) -> Result<(), Fail> {
-    let groups = [GROUP, leader(1), leader(1)];
+fn tables_that_do_not_fit_are_not_opened(rt: HostRuntime) {
+    let groups = [leader(0), leader(1), leader(1)];
     let links = [link(0, 1, Kind::Most, 20)];
     assert!(rt; !is_unfit(&groups, &links, 1));
     assert!(rt; is_unfit(&groups[0..2], &links, 1));
     assert!(rt; is_unfit(&groups, &links, 2));
     assert!(rt; is_unfit(&[leader(1), leader(1), leader(1)], &links, 1));
-    assert!(rt; is_unfit(&[GROUP, leader(2), leader(1)], &links, 1));
+    assert!(rt; is_unfit(&[leader(0), leader(2), leader(1)], &links, 1));
     assert!(rt; is_unfit(&groups, &[link(0, 2, Kind::Most, 20)], 1));
     assert!(rt; is_unfit(&groups, &[link(0, 1, Kind::Most, 1_000_001)], 1));
-    match Run::open(0, 0, &groups, &links) {
-        Ok(_run) => Err(Fail::new("opened")),
-        Err(refusal) => {
-            assert_eq!(rt; refusal, OpenRefusal::Limits);
-            Ok(())
-        },
-    }
+    assert_eq!(rt;
+        Run::open(0, 0, &groups, &links).err(),
+        Some(OpenRefusal::Limits)
+    );
 }

@@ -1,29 +1,10 @@
 // Examples of sources: handed rows, two sources joined, a margin, and piles of these.
-ghost use Rattle.std.specs.Prelude.{◌≡◌, true};
-
+use crate::made::row;
 use bounds::{
-    Fault, Item, Joined, LooseEnd, Margin, NoSuchPlace, Row, Rows, Source, SpoiledItem,
-    first_spoiled, first_spoiled_of_pair,
+    Fault, Joined, LooseEnd, Margin, NoSuchPlace, Reason, Rows, Source, SpoiledItem, first_spoiled,
+    first_spoiled_of_pair,
 };
 use std::test::Fail;
-
-// A row with both ends.
-fn row(from: u16, to: u16, lower: i32, upper: i32) -> Row
-    ensures { result ≡ record { from = from; to = to; lower = record { present = true; value = lower }; upper = record { present = true; value = upper } } }
-{
-    Row {
-        from,
-        to,
-        lower: LooseEnd {
-            present: true,
-            value: lower,
-        },
-        upper: LooseEnd {
-            present: true,
-            value: upper,
-        },
-    }
-}
 
 #[test]
 fn rows_are_read(rt: HostRuntime) -> Result<(), Fail> {
@@ -32,20 +13,12 @@ fn rows_are_read(rt: HostRuntime) -> Result<(), Fail> {
     assert_eq!(rt; source.steps(), 2);
     assert_eq!(rt; source.count(), 2);
     assert_eq!(rt; first_spoiled(&source), None);
-    let Ok(item) = source.item(1) else {
-        return Err(Fail::new("no item"));
-    };
-    let Item::Bound(bound) = item else {
-        return Err(Fail::new("spoiled"));
-    };
+    let bound = source.item(1)??;
     assert_eq!(rt; bound.from_step(), 1);
     assert_eq!(rt; bound.to_step(), 0);
     assert_eq!(rt; bound.lower_end(), Some(-5));
     assert_eq!(rt; bound.upper_end(), Some(1_000_000));
-    let Err(past) = source.item(2) else {
-        return Err(Fail::new("an item past the end"));
-    };
-    assert_eq!(rt; past, NoSuchPlace);
+    assert_eq!(rt; source.item(2), Err(NoSuchPlace));
     Ok(())
 }
 
@@ -68,7 +41,7 @@ fn rows_are_refused(rt: HostRuntime) {
         })
     );
     let mut untidy = row(0, 1, 10, 20);
-    untidy.lower.present = false;
+    untidy.lower = LooseEnd::Absent(10);
     assert_eq!(rt;
         first_spoiled(&Rows::new(2, &[untidy])),
         Some(SpoiledItem {
@@ -84,9 +57,7 @@ fn rows_beyond_the_limit(rt: HostRuntime) -> Result<(), Fail> {
     let source = Rows::new(65_535, &rows);
     assert_eq!(rt; source.steps(), 65_535);
     assert_eq!(rt; source.count(), 513);
-    let Ok(_) = source.item(511) else {
-        return Err(Fail::new("no last item"));
-    };
+    assert!(rt; source.item(511).is_ok());
     let Err(past) = source.item(512) else {
         return Err(Fail::new("an item past the limit"));
     };
@@ -102,25 +73,12 @@ fn joined_short(rt: HostRuntime) -> Result<(), Fail> {
     let joined = Joined::new(Rows::new(2, &first), Rows::new(5, &second));
     assert_eq!(rt; joined.steps(), 5);
     assert_eq!(rt; joined.count(), 3);
-    let Ok(item) = joined.item(0) else {
-        return Err(Fail::new("no first item"));
-    };
-    let Item::Bound(bound) = item else {
-        return Err(Fail::new("first spoiled"));
-    };
+    let bound = joined.item(0)??;
     assert_eq!(rt; bound.lower_end(), Some(1));
-    let Ok(item) = joined.item(2) else {
-        return Err(Fail::new("no last item"));
-    };
-    let Item::Bound(bound) = item else {
-        return Err(Fail::new("last spoiled"));
-    };
+    let bound = joined.item(2)??;
     assert_eq!(rt; bound.to_step(), 4);
     assert_eq!(rt; bound.lower_end(), Some(3));
-    let Err(past) = joined.item(3) else {
-        return Err(Fail::new("an item past the end"));
-    };
-    assert_eq!(rt; past, NoSuchPlace);
+    assert_eq!(rt; joined.item(3), Err(NoSuchPlace));
     Ok(())
 }
 
@@ -134,10 +92,7 @@ fn joined_long(rt: HostRuntime) -> Result<(), Fail> {
     assert_eq!(rt; long.count(), 513);
     // Step 1 does not exist in the second source.
     assert_eq!(rt; first_spoiled(&long), None);
-    let Err(past) = long.item(512) else {
-        return Err(Fail::new("an item past the limit"));
-    };
-    assert_eq!(rt; past, NoSuchPlace);
+    assert_eq!(rt; long.item(512), Err(NoSuchPlace));
     // The second list begins at the last place that is read.
     let split = Joined::new(Rows::new(2, &many[..511]), Rows::new(1, &one));
     assert_eq!(rt; split.count(), 512);
@@ -157,12 +112,7 @@ fn margin_at_both_ends(rt: HostRuntime) -> Result<(), Fail> {
     let source = Margin::new(Rows::new(2, &rows), 7);
     assert_eq!(rt; source.steps(), 2);
     assert_eq!(rt; source.count(), 1);
-    let Ok(item) = source.item(0) else {
-        return Err(Fail::new("no item"));
-    };
-    let Item::Bound(bound) = item else {
-        return Err(Fail::new("spoiled"));
-    };
+    let bound = source.item(0)??;
     assert_eq!(rt; bound.lower_end(), Some(17));
     assert_eq!(rt; bound.upper_end(), Some(13));
     Ok(())
@@ -199,20 +149,10 @@ fn pile_of_three_layers(rt: HostRuntime) -> Result<(), Fail> {
     let own = Margin::new(Rows::new(3, &second), 4);
     let pile = Margin::new(Joined::new(Rows::new(3, &first), own), 3);
     assert_eq!(rt; pile.count(), 2);
-    let Ok(item) = pile.item(0) else {
-        return Err(Fail::new("no first item"));
-    };
-    let Item::Bound(bound) = item else {
-        return Err(Fail::new("first spoiled"));
-    };
+    let bound = pile.item(0)??;
     assert_eq!(rt; bound.lower_end(), Some(13));
     assert_eq!(rt; bound.upper_end(), Some(87));
-    let Ok(item) = pile.item(1) else {
-        return Err(Fail::new("no second item"));
-    };
-    let Item::Bound(bound) = item else {
-        return Err(Fail::new("second spoiled"));
-    };
+    let bound = pile.item(1)??;
     assert_eq!(rt; bound.lower_end(), Some(17));
     assert_eq!(rt; bound.upper_end(), Some(83));
     Ok(())

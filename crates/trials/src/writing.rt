@@ -1,6 +1,6 @@
 // Examples of the writer: what it writes, what it keeps, and what it refuses.
 use crate::borrowing::{write_other_bytes_while_open, write_same_bytes_after_last_use};
-use bounds::{Fault, Source, SpoiledItem};
+use bounds::{Fault, Reason, Source, SpoiledItem};
 use card::{Card, CardRefusal, RewriteRefusal, WriteRefusal, rewrite, write_card};
 use std::test::Fail;
 
@@ -22,13 +22,9 @@ const SPOILED: [u8; 17] = [
 #[test]
 fn a_read_card_gives_its_bytes_again(rt: HostRuntime) -> Result<(), Fail> {
     let bytes = THREE_STEPS;
-    let Ok(card) = Card::open(&bytes) else {
-        return Err(Fail::new("not opened"));
-    };
+    let card = Card::open(&bytes)?;
     let mut out = [0x55; 17];
-    let Ok(size) = write_card(&card, &mut out) else {
-        return Err(Fail::new("not written"));
-    };
+    let size = write_card(&card, &mut out)?;
     assert_eq!(rt; size, 17);
     assert_eq!(rt; out, THREE_STEPS);
     Ok(())
@@ -38,9 +34,7 @@ fn a_read_card_gives_its_bytes_again(rt: HostRuntime) -> Result<(), Fail> {
 fn bytes_behind_are_kept(rt: HostRuntime) -> Result<(), Fail> {
     let bytes = TWO_STEPS;
     let mut out = [0x55; 12];
-    let Ok(size) = rewrite(&bytes, &mut out) else {
-        return Err(Fail::new("not written"));
-    };
+    let size = rewrite(&bytes, &mut out)?;
     assert_eq!(rt; size, 10);
     assert_eq!(rt;
         out,
@@ -54,9 +48,7 @@ fn bytes_behind_are_kept(rt: HostRuntime) -> Result<(), Fail> {
 #[test]
 fn one_byte_too_few(rt: HostRuntime) -> Result<(), Fail> {
     let bytes = TWO_STEPS;
-    let Ok(card) = Card::open(&bytes) else {
-        return Err(Fail::new("not opened"));
-    };
+    let card = Card::open(&bytes)?;
     let mut out = [0x55; 9];
     let Err(refusal) = write_card(&card, &mut out) else {
         return Err(Fail::new("written"));
@@ -71,9 +63,7 @@ fn one_byte_too_few(rt: HostRuntime) -> Result<(), Fail> {
 #[test]
 fn a_spoiled_item_has_its_place(rt: HostRuntime) -> Result<(), Fail> {
     let bytes = SPOILED;
-    let Ok(card) = Card::open(&bytes) else {
-        return Err(Fail::new("not opened"));
-    };
+    let card = Card::open(&bytes)?;
     let mut out = [0x55; 17];
     let Err(refusal) = write_card(&card, &mut out) else {
         return Err(Fail::new("written"));
@@ -130,9 +120,7 @@ fn other_bytes_while_the_card_is_open(rt: HostRuntime) {
 #[test]
 fn the_same_bytes_after_the_last_use(rt: HostRuntime) -> Result<(), Fail> {
     let other = TWO_STEPS;
-    let Ok(card) = Card::open(&other) else {
-        return Err(Fail::new("not opened"));
-    };
+    let card = Card::open(&other)?;
     let mut bytes = THREE_STEPS;
     assert_eq!(rt; write_same_bytes_after_last_use(&mut bytes, &card), Some(3));
     assert_eq!(rt; card.steps(), 2);

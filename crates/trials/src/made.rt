@@ -1,0 +1,54 @@
+// What the examples are made of: rows, links, due entries, and what stands in tables and slots before.
+ghost use Rattle.std.specs.Prelude.{◌≡◌};
+ghost use Rattle.bounds.specs.declared.row.LooseEnd.TheVariants.{Present};
+
+use bounds::{LooseEnd, Row};
+use network::{DueEntry, GroupEntry, Kind, Link};
+
+/// A group entry that no example gives.
+pub(crate) const GROUP: GroupEntry = GroupEntry {
+    leader: 9,
+    offset: 9,
+};
+
+/// A link that no example gives.
+pub(crate) const LINK: Link = Link {
+    trigger: 9,
+    target: 9,
+    kind: Kind::Least,
+    seconds: 9,
+};
+
+/// A due entry that no example gives.
+pub(crate) const DUE: DueEntry = DueEntry { step: 9, upper: 9 };
+
+/// A row with both ends.
+pub(crate) fn row(from: u16, to: u16, lower: i32, upper: i32) -> Row
+    ensures { result ≡ record { from = from; to = to; lower = Present lower; upper = Present upper } }
+{
+    Row {
+        from,
+        to,
+        lower: LooseEnd::Present(lower),
+        upper: LooseEnd::Present(upper),
+    }
+}
+
+/// A link.
+pub(crate) fn link(trigger: u8, target: u8, kind: Kind, seconds: u32) -> Link
+    ensures { result ≡ record { trigger = trigger; target = target; kind = kind; seconds = seconds } }
+{
+    Link {
+        trigger,
+        target,
+        kind,
+        seconds,
+    }
+}
+
+/// A due entry.
+pub(crate) fn due(step: u16, upper: u64) -> DueEntry
+    ensures { result ≡ record { step = step; upper = upper } }
+{
+    DueEntry { step, upper }
+}
