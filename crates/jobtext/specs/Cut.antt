@@ -14,7 +14,7 @@ is_comment c = c == 35
 abbrev pub is_blank : ℕ → Bool
 is_blank c = c == 32 || (c == 9 || c == 13)
 
--- each result of a call, where `gives c r` says that a call at the byte c may give r, is what the test gives
+-- a call at a byte gives what the test gives there; `gives c r` says that a call at c may give r
 abbrev pub Answers : (ℕ → Bool → Type 0) → (ℕ → Bool) → Type 0
 Answers gives test = (c : ℕ) (r : Bool) → gives c r → r ≡ test c
 
