@@ -1,5 +1,6 @@
 -- Total orders, lists that ascend, and where one more entry is placed.
-use Rattle.std.specs.Prelude.{◌≡◌, Bool, true, false, cond, ◌&&◌, List, [], ◌∷◌, ◌≢◌}
+use Rattle.std.specs.Prelude.{◌≡◌, Bool, true, false, cond, List, [], ◌∷◌, ◌≢◌}
+use Rattle.std.specs.List.{list_all}
 
 -- of two entries exactly one holds: x comes first, y comes first, or they are equal
 pub data OneOf {X : Type 0} (lt : X → X → Bool) (x y : X) : Type 0 where
@@ -22,17 +23,12 @@ abbrev pub Ascending : {X : Type 0} → (X → X → Bool) → List X → Type 0
 Ascending lt [] = Unit {0}
 Ascending lt (x ∷ xs) = NoneBefore lt x xs × Ascending lt xs
 
--- whether x comes before every entry of the list
-abbrev pub after_all : {X : Type 0} → (X → X → Bool) → X → List X → Bool
-after_all lt x [] = true
-after_all lt x (y ∷ ys) = lt x y && after_all lt x ys
-
 -- each entry comes before every later one
 abbrev pub Strictly : {X : Type 0} → (X → X → Bool) → List X → Type 0
 Strictly lt [] = Unit {0}
-Strictly lt (x ∷ xs) = (after_all lt x xs ≡ true) × Strictly lt xs
+Strictly lt (x ∷ xs) = (list_all (lt x) xs ≡ true) × Strictly lt xs
 
 -- the list with x behind the last entry that x does not come before
 abbrev pub placed : {X : Type 0} → (X → X → Bool) → X → List X → List X
 placed lt x [] = x ∷ []
-placed lt x (y ∷ ys) = cond (after_all lt x (y ∷ ys)) (x ∷ (y ∷ ys)) (y ∷ placed lt x ys)
+placed lt x (y ∷ ys) = cond (list_all (lt x) (y ∷ ys)) (x ∷ (y ∷ ys)) (y ∷ placed lt x ys)

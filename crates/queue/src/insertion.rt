@@ -1,11 +1,12 @@
 // The insertion of one entry among the used slots.
-ghost use Rattle.std.specs.Prelude.{◌≡◌, ◌+◌, ◌<◌, ◌⊎◌, ◌↔◌, ◌++◌, length, take, drop};
+ghost use Rattle.std.specs.Prelude.{◌≡◌, ◌+◌, ◌<◌, ◌≤◌, ◌⊎◌, ◌↔◌, ◌++◌, not, length, take, drop};
+ghost use Rattle.std.specs.List.{IsAfterLastMatch};
 ghost use mathlib.Core.List.{Memᴰ};
 ghost use Rattle.queue.specs.Order.{Ascending, Strictly, placed};
 
 use crate::order::Ordered;
 
-/// Places the entry among the first `len` slots. It starts at the back, so entries that come in order cost constant time each.
+/// Places the entry among the first `len` slots.
 pub(crate) fn place<T: Ordered>(slots: &mut [T], len: usize, added: T)
     requires { len < length slots.old }
     ensures slots { slots.new ≡ placed T.precedes added (take len slots.old) ++ drop (len + 1) slots.old }
@@ -14,14 +15,17 @@ pub(crate) fn place<T: Ordered>(slots: &mut [T], len: usize, added: T)
     ensures ascends { Ascending T.precedes (take len slots.old) → Ascending T.precedes (take (len + 1) slots.new) }
     ensures strictly { Strictly T.precedes (take len slots.old) → (Memᴰ added (take len slots.old) → ⊥) → Strictly T.precedes (take (len + 1) slots.new) }
 {
-    let mut at = len;
-    while at > 0 {
-        let below = slots[at - 1];
-        if !added.comes_before(&below) {
-            break;
-        }
-        slots[at] = below;
-        at -= 1;
-    }
+    let at = place_among(&slots[..len], &added);
+    slots.copy_within(at..len, at + 1);
     slots[at] = added;
+}
+
+// The place behind the last entry that the added one does not come before. The search starts at the back, so entries that come in order cost constant time each.
+fn place_among<T: Ordered>(used: &[T], added: &T) -> usize
+    ensures within { result ≤ length used.now }
+    ensures place { IsAfterLastMatch (λ y. not (T.precedes added.now y)) used.now result }
+{
+    used.iter()
+        .rposition(|entry| !added.comes_before(entry))
+        .map_or(0, |last| last + 1)
 }
