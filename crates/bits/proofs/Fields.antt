@@ -1,11 +1,12 @@
 -- Bits and fields: how small they are, and how fields are made of bits and of fields.
-use Rattle.std.proofs.Common.{◌≡◌, ℕ, zero, suc, ◌+◌, ◌-◌, ◌*◌, ◌/◌, ◌%◌, ◌^◌, ◌<◌, ◌≤◌, List, length, get_or, sym, refl, ap, ◌∙◌, inl, inr, mul_assoc, pow-suc, add-one, arith}
+use Rattle.std.proofs.Common.{◌≡◌, ℕ, zero, suc, ◌+◌, ◌-◌, ◌*◌, ◌/◌, ◌%◌, ◌^◌, ◌<◌, ◌≤◌, List, length, get_or, sym, refl, ap, ◌∙◌, mul_assoc, pow-suc, add-one, arith}
 use native.Mathlib.Nat.{zero-div}
 use lib.Bits.{bit_and}
-use Rattle.std.proofs.lemmas.Nat.{and_mask, mod_below, pow_below}
+use Rattle.std.proofs.lemmas.Nat.{and_mask, mod_below}
 use Rattle.std.proofs.lemmas.List.{get_or_past}
-use Rattle.std.proofs.lemmas.Bool.{cases_order}
+use Rattle.std.proofs.Math.Pow.{pow_mono}
 use Rattle.bits.specs.Field.{bit_of, bit, field}
+use Rattle.bits.specs.Limits.{most_bits}
 
 -- a bit is 0 or 1
 pub bit_lt : (xs : List ℕ) (i : ℕ) → bit xs i < 2
@@ -55,10 +56,13 @@ field_split xs s a (suc b) =
     let h = field_split xs s a b in
     ap (field xs s) e ∙ omega (arith, f, g, h)
 
--- powers of two go up
-pub pow_up : (i j : ℕ) → i ≤ j → 2 ^ i ≤ 2 ^ j
-pow_up i j h = elim (cases_order i j) [ inl e ↦ omega (arith, ap (λ n. 2 ^ n) e) | inr o ↦ elim o [ inl l ↦ omega (arith, pow_below i j l) | inr g ↦ absurd (omega arith) ] ]
+-- one bit more than w bits fits the widest field
+pub field_fits : (xs : List ℕ) (s w : ℕ) → w < most_bits → field xs s w * 2 + 1 < 2 ^ most_bits
+field_fits xs s w l = let top : 2 ^ suc w ≤ 2 ^ most_bits = pow_mono {i = suc w} {j = most_bits} (omega arith) in omega (arith, field_lt xs s w, pow-suc 2 w)
 
--- one bit more than w bits fits m bits
-pub field_fits : (xs : List ℕ) (s w m : ℕ) → w < m → field xs s w * 2 + 1 < 2 ^ m
-field_fits xs s w m l = omega (arith, field_lt xs s w, pow-suc 2 w, pow_up (suc w) m (omega arith))
+-- one bit more, by its place
+pub field_next : (xs : List ℕ) (s i : ℕ) → s ≤ i → field xs s (i + 1 - s) ≡ field xs s (i - s) * 2 + bit xs i
+field_next xs s i l = ap (field xs s) (omega arith) ∙ field_more xs s (i - s) ∙ ap (λ n. field xs s (i - s) * 2 + bit xs n) (omega arith)
+
+-- what the reading of bits and fields comes to
+pub ruleset reads = (bit_lt, bit_read, bit_past, field_none, field_next, field_lt, field_fits)

@@ -1,8 +1,12 @@
 -- Two's complement: its two halves, its range, that it is the one number in range congruent to the bits, and the way back.
-use Rattle.std.proofs.Common.{◌≡◌, ℕ, suc, ◌-◌, ◌*◌, ◌%◌, ◌^◌, ◌<◌, ◌≤◌, ltb, ℤ, pos, negsuc, ◌-ℤ◌, sym, refl, ap, ◌∙◌, subst, inl, inr, mod-eq_of_lt, arith}
-use Rattle.std.proofs.lemmas.Nat.{mod_below, pow_pos}
+use Rattle.std.proofs.Common.{List, ◌≡◌, ℕ, suc, ◌-◌, ◌*◌, ◌%◌, ◌^◌, ◌<◌, ◌≤◌, ltb, ℤ, pos, negsuc, ◌-ℤ◌, sym, refl, ap, ◌∙◌, subst, inl, inr, mod-eq_of_lt, arith}
+use Rattle.std.proofs.lemmas.Nat.{mod_below, pow_pos, one_shl}
 use Rattle.std.proofs.lemmas.Int.{ints}
 use Rattle.std.proofs.lemmas.Bool.{cond-true, cond-false, lt-ltb, le-ltb, cases_lt}
+use Rattle.std.proofs.Math.Pow.{pow_mono}
+use Rattle.bits.specs.Limits.{most_signed_bits}
+use Rattle.bits.proofs.Fields.{field_lt}
+use Rattle.bits.specs.Field.{field}
 use Rattle.bits.specs.Signed.{signed, unsigned, InRange, Congruent, StandsFor}
 
 -- the lower half of the values
@@ -79,3 +83,14 @@ pub unsigned_signed : (w x : ℕ) → x < 2 ^ w → unsigned w (signed w x) ≡ 
 unsigned_signed w x h =
     let e : pos (unsigned w (signed w x)) ≡ pos x = sym (unsigned_congruent w (signed w x)) ∙ signed_congruent w x h in
     cc
+
+-- the power of a width is at most that of the widest signed field
+pub pow_signed : (w : ℕ) → w ≤ most_signed_bits → 2 ^ w ≤ 2 ^ most_signed_bits
+pow_signed w l = pow_mono l
+
+-- so is what a field stands for
+pub field_stands : (xs : List ℕ) (s w : ℕ) (z : ℤ) → z ≡ signed w (field xs s w) → StandsFor w (field xs s w) z
+field_stands xs s w z e = subst (StandsFor w (field xs s w)) (sym e) (signed_stands w (field xs s w) (field_lt xs s w))
+
+-- the two halves as the code tells them apart
+pub ruleset halves = (ints, one_shl, pow_signed, signed_low, signed_high)

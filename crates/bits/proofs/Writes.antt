@@ -1,11 +1,13 @@
 -- What writes into bits leave: one bit, one field bit by bit, and one write after another.
-use Rattle.std.proofs.Common.{◌≡◌, ℕ, zero, suc, ◌+◌, ◌-◌, ◌*◌, ◌/◌, ◌%◌, ◌^◌, ◌<◌, ◌≤◌, ◌⊎◌, List, length, get_or, set, sym, refl, ap, ◌∙◌, inl, inr, mod-eq_of_lt, arith, length-set}
-use native.Mathlib.Nat.{div_self, div-eq_of_lt, mul-mod_left}
-use lib.Bits.{bit_and, bit_xor, xor_zero_r}
-use Rattle.std.proofs.lemmas.Nat.{and_mask, pow_pos, pow-add, shl-shr, shr-shr, mod-pow-add, pow_below, xor_shr, xor_mod, one_shl, mod_below}
+use Rattle.std.proofs.Common.{◌≡◌, ℕ, zero, suc, ◌+◌, ◌-◌, ◌*◌, ◌/◌, ◌%◌, ◌^◌, ◌<◌, ◌≤◌, ◌⊎◌, ℤ, List, length, get_or, set, sym, refl, ap, ◌∙◌, inl, inr, mod-eq_of_lt, arith, length-set}
+use lib.Bits.{bit_and, bit_xor}
+use Rattle.std.proofs.lemmas.Nat.{and_mask, shr-shr, mod-pow-add, one_shl}
 use Rattle.std.proofs.lemmas.List.{get_or-set_same, get_or-set_other}
-use Rattle.std.proofs.lemmas.Bool.{cases_order, cases_eq}
+use Rattle.std.proofs.lemmas.Bool.{cases_eq}
+use Rattle.std.proofs.lemmas.Nat.Bits.{bit_at_xor, bit_at-pow_same, bit_at-pow_other, bit_at-lt}
 use Rattle.bits.specs.Field.{bit_of, bit, field}
+use Rattle.bits.specs.Signed.{signed, unsigned, InRange}
+use Rattle.bits.proofs.Signs.{unsigned_lt, signed_unsigned}
 use Rattle.bits.specs.Wrote.{KeptOutside, Wrote}
 use Rattle.bits.proofs.Fields.{field_none, field_more}
 
@@ -54,44 +56,18 @@ field_written xs ys zs s w v a e h room l k b = field_kept ys zs a e s w k (inl 
 
 -- one bit
 
-power_same : (k : ℕ) → 2 ^ k / 2 ^ k % 2 ≡ 1
-power_same k = ap (λ n. n % 2) (div_self (pow_pos k))
+-- a signed number that was written and fits its width is read again
+pub signed_written : (xs ys : List ℕ) (s w : ℕ) (z : ℤ) → Wrote xs ys s w (unsigned w z) → InRange w z → s + w ≤ 8 * length xs → signed w (field ys s w) ≡ z
+signed_written xs ys s w z h r room = ap (signed w) (h.whole room ∙ mod-eq_of_lt (unsigned_lt w z)) ∙ signed_unsigned w z r
 
-power_other : (j i : ℕ) → (j ≡ i → ⊥) → 2 ^ j / 2 ^ i % 2 ≡ 0
-power_other j i h = elim (cases_order j i) [ inl e ↦ absurd (h e) | inr o ↦ elim o [ inl l ↦ ap (λ n. n % 2) (div-eq_of_lt (pow_below j i l)) | inr g ↦ above g ] ]
-  where
-    above : i < j → 2 ^ j / 2 ^ i % 2 ≡ 0
-    above l =
-        let d : ℕ = j - i - 1 in
-        let e : j ≡ (d + 1) + i = omega arith in
-        ap (λ n. 2 ^ n / 2 ^ i % 2) e
-        ∙ ap (λ n. n / 2 ^ i % 2) (pow-add 2 (d + 1) i)
-        ∙ ap (λ n. n % 2) (shl-shr (2 ^ (d + 1)) i)
-        ∙ ap (λ n. n % 2) (pow-add 2 d 1)
-        ∙ mul-mod_left (2 ^ d) 2
-
-bit_of_lt : (b j : ℕ) → bit_of b j < 2
-unfolding bit_of
-bit_of_lt b j = mod_below (b / 2 ^ (7 - j)) 2 (omega arith)
-
-xor_bit : (b j k : ℕ) → bit_of (bit_xor b (2 ^ k)) j ≡ bit_xor (bit_of b j) (2 ^ k / 2 ^ (7 - j) % 2)
-unfolding bit_of
-xor_bit b j k = ap (λ n. n % 2) (xor_shr b (2 ^ k) (7 - j)) ∙ xor_mod (b / 2 ^ (7 - j)) (2 ^ k / 2 ^ (7 - j)) 1
-
+-- one bit of a byte turned over: another bit stays, and this one, where it was not v, is v
 flip_other : (b j k : ℕ) → j < 8 → k < 8 → (j ≡ k → ⊥) → bit_of (bit_xor b (2 ^ (7 - k))) j ≡ bit_of b j
-flip_other b j k p q h = xor_bit b j (7 - k) ∙ ap (bit_xor (bit_of b j)) (power_other (7 - k) (7 - j) (λ e. h (omega arith))) ∙ xor_zero_r (bit_of b j)
-
-flipped : (x v : ℕ) → x < 2 → v < 2 → (x ≡ v → ⊥) → bit_xor x 1 ≡ v
-flipped zero zero p q h = absurd (h refl)
-flipped zero (suc zero) p q h = refl
-flipped (suc zero) zero p q h = refl
-flipped (suc zero) (suc zero) p q h = absurd (h refl)
-flipped (suc (suc x)) v p q h = absurd (omega arith)
-flipped zero (suc (suc v)) p q h = absurd (omega arith)
-flipped (suc zero) (suc (suc v)) p q h = absurd (omega arith)
+unfolding bit_of
+flip_other b j k p q h = let other = bit_at-pow_other (7 - k) (7 - j) (λ e. h (omega arith)) in omega (arith, other, bit_at_xor b (2 ^ (7 - k)) (7 - j), bit_at-lt b (7 - j))
 
 flip_same : (b k v : ℕ) → v < 2 → (bit_of b k ≡ v → ⊥) → bit_of (bit_xor b (2 ^ (7 - k))) k ≡ v
-flip_same b k v l h = xor_bit b k (7 - k) ∙ ap (bit_xor (bit_of b k)) (power_same (7 - k)) ∙ flipped (bit_of b k) v (bit_of_lt b k) l h
+unfolding bit_of
+flip_same b k v l h = omega (arith, h, bit_at_xor b (2 ^ (7 - k)) (7 - k), bit_at-pow_same (7 - k), bit_at-lt b (7 - k))
 
 -- a field of one bit is that bit
 wrote_one : (xs ys : List ℕ) (at v : ℕ) → v < 2 → KeptOutside xs ys at (at + 1) → (at < 8 * length xs → bit ys at ≡ v) → Wrote xs ys at 1 v
@@ -117,29 +93,25 @@ wrote_kept xs at v l p = wrote_one xs xs at v l (kept_none xs at (at + 1)) p
 pub wrote_flip : (xs : List ℕ) (at v : ℕ) → at / 8 < length xs → v < 2 → (bit xs at ≡ v → ⊥)
     → Wrote xs (set xs (at / 8) (bit_xor (get_or xs (at / 8) 0) ((1 * 2 ^ (7 - at % 8)) % 256))) at 1 v
 unfolding bit
-wrote_flip xs at v l k h =
-    let new : ℕ = bit_xor (get_or xs (at / 8) 0) ((1 * 2 ^ (7 - at % 8)) % 256) in
-    wrote_one xs (set xs (at / 8) new) at v k (record {
-      long = length-set xs (at / 8) new;
-      bits = λ i o. others i (λ q. elim o [ inl p ↦ omega arith | inr p ↦ omega arith ]);
-      bytes = λ j o. get_or-set_other xs (at / 8) j new 0 (λ q. elim o [ inl p ↦ omega arith | inr p ↦ omega arith ]);
-    }) (λ _. placed)
+wrote_flip xs at v l k h = turned (bit_xor (get_or xs (at / 8) 0) ((1 * 2 ^ (7 - at % 8)) % 256)) (ap (bit_xor (get_or xs (at / 8) 0)) (one_shl (7 - at % 8) 8 (omega arith)))
   where
-    new_is : bit_xor (get_or xs (at / 8) 0) ((1 * 2 ^ (7 - at % 8)) % 256) ≡ bit_xor (get_or xs (at / 8) 0) (2 ^ (7 - at % 8))
-    new_is = ap (bit_xor (get_or xs (at / 8) 0)) (one_shl (7 - at % 8) 8 (omega arith))
-
-    placed : bit (set xs (at / 8) (bit_xor (get_or xs (at / 8) 0) ((1 * 2 ^ (7 - at % 8)) % 256))) at ≡ v
-    placed = ap (λ b. bit_of b (at % 8)) (get_or-set_same xs (at / 8) (bit_xor (get_or xs (at / 8) 0) ((1 * 2 ^ (7 - at % 8)) % 256)) 0 l ∙ new_is) ∙ flip_same (get_or xs (at / 8) 0) (at % 8) v k h
-
-    near : (i : ℕ) → (i ≡ at → ⊥) → i / 8 ≡ at / 8 → bit_of (get_or (set xs (at / 8) (bit_xor (get_or xs (at / 8) 0) ((1 * 2 ^ (7 - at % 8)) % 256))) (i / 8) 0) (i % 8) ≡ bit_of (get_or xs (i / 8) 0) (i % 8)
-    near i ne e =
-        ap (λ n. bit_of (get_or (set xs (at / 8) (bit_xor (get_or xs (at / 8) 0) ((1 * 2 ^ (7 - at % 8)) % 256))) n 0) (i % 8)) e
-        ∙ ap (λ b. bit_of b (i % 8)) (get_or-set_same xs (at / 8) (bit_xor (get_or xs (at / 8) 0) ((1 * 2 ^ (7 - at % 8)) % 256)) 0 l ∙ new_is)
-        ∙ flip_other (get_or xs (at / 8) 0) (i % 8) (at % 8) (omega arith) (omega arith) (λ f. ne (omega arith))
-        ∙ sym (ap (λ n. bit_of (get_or xs n 0) (i % 8)) e)
-
-    others : (i : ℕ) → (i ≡ at → ⊥) → bit (set xs (at / 8) (bit_xor (get_or xs (at / 8) 0) ((1 * 2 ^ (7 - at % 8)) % 256))) i ≡ bit xs i
-    others i ne = elim (cases_eq (i / 8) (at / 8)) [ inl e ↦ near i ne e | inr e ↦ ap (λ b. bit_of b (i % 8)) (get_or-set_other xs (at / 8) (i / 8) (bit_xor (get_or xs (at / 8) 0) ((1 * 2 ^ (7 - at % 8)) % 256)) 0 e) ]
+    turned : (new : ℕ) → new ≡ bit_xor (get_or xs (at / 8) 0) (2 ^ (7 - at % 8)) → Wrote xs (set xs (at / 8) new) at 1 v
+    turned new is =
+        let ys : List ℕ = set xs (at / 8) new in
+        let here : get_or ys (at / 8) 0 ≡ bit_xor (get_or xs (at / 8) 0) (2 ^ (7 - at % 8)) = get_or-set_same xs (at / 8) new 0 l ∙ is in
+        let others : (i : ℕ) → (i ≡ at → ⊥) → bit ys i ≡ bit xs i = λ i ne. elim (cases_eq (i / 8) (at / 8)) [
+          | inl e ↦
+              ap (λ n. bit_of (get_or ys n 0) (i % 8)) e
+              ∙ ap (λ b. bit_of b (i % 8)) here
+              ∙ flip_other (get_or xs (at / 8) 0) (i % 8) (at % 8) (omega arith) (omega arith) (λ f. ne (omega arith))
+              ∙ sym (ap (λ n. bit_of (get_or xs n 0) (i % 8)) e)
+          | inr e ↦ ap (λ b. bit_of b (i % 8)) (get_or-set_other xs (at / 8) (i / 8) new 0 e)
+        ] in
+        wrote_one xs ys at v k (record {
+          long = length-set xs (at / 8) new;
+          bits = λ i o. others i (λ q. elim o [ inl p ↦ omega arith | inr p ↦ omega arith ]);
+          bytes = λ j o. get_or-set_other xs (at / 8) j new 0 (λ q. elim o [ inl p ↦ omega arith | inr p ↦ omega arith ]);
+        }) (λ _. ap (λ b. bit_of b (at % 8)) here ∙ flip_same (get_or xs (at / 8) 0) (at % 8) v k h)
 
 -- a field, bit by bit
 
@@ -194,6 +166,5 @@ writing_all xs ys s w v i e h = record {
   whole = λ room. field_of_bits ys s w v (λ j l. h.each j (omega arith) (omega arith));
 }
 
--- the same write, said by another width and value
-pub wrote_as : (xs ys : List ℕ) (s w v s' w' v' : ℕ) → s ≡ s' → w ≡ w' → v ≡ v' → Wrote xs ys s w v → Wrote xs ys s' w' v'
-wrote_as xs ys s w v s' w' v' e f g h = rw (e, f, g) at h
+-- a field, from its first bit to its last
+pub ruleset bit_by_bit = (writing_none, writing_more, writing_all)

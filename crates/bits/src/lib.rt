@@ -18,21 +18,23 @@ pub const MOST_BITS: u32 = 64;
 pub const MOST_SIGNED_BITS: u32 = 32;
 
 /// The `width` bits from bit `start` on as a number, at most `MOST_BITS` of them; bits past the end are 0.
+#[tactic(auto, using(crate::proofs::Fields::reads, crate::proofs::Parts::field_part))]
 pub fn read_field(bytes: &[u8], start: u32, width: u32) -> u64
     ensures value { result ≡ field bytes.now start (min width most_bits) }
     ensures within { start + min width most_bits ≤ 8 * length bytes.now → result ≡ part bytes.now start (min width most_bits) }
     ensures small { result < 2 ^ min width most_bits }
 {
     let width = width.min(MOST_BITS);
-    let mut value: u64 = 0;
-    for i in 0..width {
-        let bit = read_bit(bytes, start as usize + i as usize);
-        value = value * 2 + u64::from(bit);
+    let first = start as usize;
+    let mut value = 0;
+    for at in first..first + width as usize {
+        value = value * 2 + u64::from(read_bit(bytes, at));
     }
     value
 }
 
 /// The same field, at most `MOST_SIGNED_BITS` of it, read as two's complement of that width.
+#[tactic(auto, using(crate::proofs::Signs::signed_in_range, crate::proofs::Fields::field_lt))]
 pub fn read_signed(bytes: &[u8], start: u32, width: u32) -> i32
     ensures value { result ≡ signed (min width most_signed_bits) (field bytes.now start (min width most_signed_bits)) }
     ensures range { InRange (min width most_signed_bits) result }
@@ -43,18 +45,17 @@ pub fn read_signed(bytes: &[u8], start: u32, width: u32) -> i32
 }
 
 // The bit at a place, counted from the first bit of the first byte; 0 past the end.
+#[tactic(auto, using(crate::proofs::Fields::reads))]
 fn read_bit(bytes: &[u8], at: usize) -> u8
     ensures { result ≡ bit bytes.now at }
 {
-    let index = at / 8;
-    if index < bytes.len() {
-        (bytes[index] >> (7 - at % 8)) & 1
-    } else {
-        0
-    }
+    bytes
+        .get(at / 8)
+        .map_or(0, |byte| (byte >> (7 - at % 8)) & 1)
 }
 
 // The number that `width` bits with the value `bits` stand for in two's complement.
+#[tactic(auto, using(crate::proofs::Signs::halves))]
 fn sign_extended(bits: u64, width: u32) -> i32
     requires { (bits < 2 ^ width) × (width ≤ most_signed_bits) }
     ensures { result ≡ signed width bits }

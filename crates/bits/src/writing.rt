@@ -8,6 +8,7 @@ ghost use Rattle.bits.specs.Wrote.{Wrote};
 use super::{MOST_BITS, MOST_SIGNED_BITS, read_bit};
 
 /// Sets the `width` bits from bit `start` on, at most `MOST_BITS` of them, to the low bits of `value`; bits past the end are left out.
+#[tactic(auto, using(crate::proofs::Writes::bit_by_bit))]
 pub fn write_field(bytes: &mut [u8], start: u32, width: u32, value: u64)
     ensures { Wrote bytes.old bytes.new start (min width most_bits) value }
 {
@@ -36,12 +37,14 @@ fn unsigned_bits(value: i32, width: u32) -> u64
 }
 
 // Sets the bit at a place to 0 or 1; past the end it does nothing.
+#[tactic(auto, using(crate::proofs::Writes::wrote_kept))]
 fn write_bit(bytes: &mut [u8], at: usize, value: u8)
     requires { value < 2 }
     ensures { Wrote bytes.old bytes.new at 1 value }
 {
     let index = at / 8;
+    // By its index: after a slice's `get_mut` nothing is known of the elements.
     if index < bytes.len() && read_bit(bytes, at) != value {
-        bytes[index] = bytes[index] ^ (1u8 << (7 - at % 8));
+        bytes[index] ^= 1 << (7 - at % 8);
     }
 }
