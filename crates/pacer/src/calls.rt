@@ -9,7 +9,7 @@ use crate::fixing::fix;
 use crate::group::{Call, Window};
 use crate::index::{Span, span_of};
 use crate::refusal::{CueRefusal, NoSuchStep, WaitRefusal};
-use crate::rules::{entry_of, refuse_cue, refuse_wait};
+use crate::rules::{entry_of, may_cue, may_wait};
 use crate::run::Run;
 use crate::state::State;
 use network::{GroupEntry, Link};
@@ -22,10 +22,8 @@ impl Run<'_> {
         ensures kept { Kept self.old self.new }
         ensures ready { StaysReady self.old self.new }
     {
-        let step = step as usize;
-        if let Some(refusal) = refuse_cue(self.steps, &self.state, self.entries, step, time) {
-            return Err(refusal);
-        }
+        let step = usize::from(step);
+        may_cue(self.steps, &self.state, self.entries, step, time)?;
         take_cue(
             &mut self.state,
             self.entries,
@@ -44,9 +42,7 @@ impl Run<'_> {
         ensures kept { Kept self.old self.new }
         ensures ready { StaysReady self.old self.new }
     {
-        if let Some(refusal) = refuse_wait(self.steps, &self.state, self.entries, time) {
-            return Err(refusal);
-        }
+        may_wait(self.steps, &self.state, self.entries, time)?;
         self.state.now = time;
         Ok(())
     }
@@ -55,15 +51,15 @@ impl Run<'_> {
     pub fn look(&self, step: u16) -> Result<Window, NoSuchStep>
         ensures { result ≡ look_answer self.now.steps self.now.entries.now self.now.state step }
     {
-        if step >= self.steps as u16 {
+        if step >= u16::from(self.steps) {
             return Err(NoSuchStep);
         }
-        let step = step as usize;
+        let step = usize::from(step);
         let entry = entry_of(self.entries, step);
         match self.state.cue(step) {
             Some(time) => Ok(Window {
-                earliest: time as u64,
-                latest: time as u64,
+                earliest: u64::from(time),
+                latest: u64::from(time),
             }),
             None => Ok(
                 self.state

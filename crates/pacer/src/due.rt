@@ -35,7 +35,7 @@ fn list_due(
     }
     let mut queue = Queue::new(buffer);
     for step in 0..steps {
-        if state.cue(step as usize).is_none() {
+        if state.cue(usize::from(step)).is_none() {
             push_due(state, entries, step, &mut queue)?;
         }
     }
@@ -47,7 +47,7 @@ fn count_uncued(steps: u8, state: &State) -> usize
     ensures { result ≡ uncued_count state.entry.now steps }
 {
     let mut count = 0;
-    for step in 0..steps as usize {
+    for step in 0..usize::from(steps) {
         if state.cue(step).is_none() {
             count += 1;
         }
@@ -67,8 +67,8 @@ fn push_due(
     ensures count { MatchResult result (λ _. queue.new.len ≡ queue.old.len + 1) (λ _. ⊥) }
 {
     queue.push(DueEntry {
-        step: step as u16,
-        upper: upper_end(state, entries, step as usize, Call::List),
+        step: u16::from(step),
+        upper: upper_end(state, entries, usize::from(step), Call::List),
     })
 }
 

@@ -22,7 +22,7 @@ pub(crate) fn fix(state: &mut State, links: &[Link], leader: u8, time: u32)
 fn apply(state: &mut State, link: Link, time: u32)
     ensures { state.exit.now ≡ after_link time link state.entry.now }
 {
-    let bound = time as u64 + link.seconds as u64;
+    let bound = u64::from(time) + u64::from(link.seconds);
     let group = state.group(link.target).narrowed(link.kind, bound);
     state.put_group(link.target, group);
     match link.kind {

@@ -32,27 +32,27 @@ impl Group {
     pub(crate) fn window(self, call: Call, offset: u32, now: u32) -> Window
         ensures { result ≡ window_for self call offset «now» }
     {
-        let later = offset as u64;
+        let later = u64::from(offset);
         match (self, call) {
             (Group::Fixed { time }, _) => Window {
-                earliest: time as u64 + later,
-                latest: time as u64 + later,
+                earliest: u64::from(time) + later,
+                latest: u64::from(time) + later,
             },
             (Group::Open { lower, upper }, Call::Look) => Window {
-                earliest: lower.saturating_add(later).max(now as u64),
-                latest: upper as u64 + later,
+                earliest: lower.saturating_add(later).max(u64::from(now)),
+                latest: u64::from(upper) + later,
             },
             (Group::Open { lower, upper }, Call::Cue) => Window {
                 earliest: lower,
-                latest: upper as u64 + later,
+                latest: u64::from(upper) + later,
             },
             (Group::Open { lower, upper }, Call::Wait) => Window {
                 earliest: lower,
-                latest: upper as u64 + later,
+                latest: u64::from(upper) + later,
             },
             (Group::Open { lower, upper }, Call::List) => Window {
                 earliest: lower,
-                latest: upper as u64 + later,
+                latest: u64::from(upper) + later,
             },
         }
     }
@@ -74,7 +74,7 @@ impl Group {
         match (self, kind) {
             (Group::Open { lower, upper }, Kind::Most) => Group::Open {
                 lower,
-                upper: (upper as u64).min(bound) as u32,
+                upper: u64::from(upper).min(bound) as u32,
             },
             (Group::Open { lower, upper }, Kind::Least) => Group::Open {
                 lower: lower.max(bound),

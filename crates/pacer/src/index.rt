@@ -2,11 +2,10 @@
 ghost use Rattle.std.specs.Prelude.{◌≡◌};
 ghost use Rattle.pacer.specs.Fixing.{first_of, span_at, spanned};
 
-use crate::slots::get;
 use network::Link;
 
 /// A part of the link table.
-#[derive(Clone, Copy)]
+#[derive(Clone, Copy, Default)]
 pub(crate) struct Span {
     pub(crate) start: usize,
     pub(crate) end: usize,
@@ -34,12 +33,9 @@ impl Span {
     }
 }
 
-// No link.
-pub(crate) const NO_SPAN: Span = Span { start: 0, end: 0 };
-
 /// The span of a leader.
 pub(crate) fn span_of(spans: &[Span], leader: u8) -> Span
     ensures { result ≡ span_at spans.now leader }
 {
-    get(spans, leader as usize, NO_SPAN)
+    spans.get(usize::from(leader)).copied().unwrap_or_default()
 }

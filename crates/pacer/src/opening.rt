@@ -6,11 +6,11 @@ ghost use Rattle.pacer.specs.Refusals.{open_number, refused_with};
 
 use crate::fixing::fix;
 use crate::group::Group;
-use crate::index::{NO_SPAN, Span, span_of};
+use crate::index::{Span, span_of};
 use crate::refusal::OpenRefusal;
 use crate::rules::entry_of;
 use crate::run::Run;
-use crate::slots::{get, put};
+use crate::slots::put;
 use crate::state::{MOST, State};
 use bounds::limits::{HORIZON, MOST_STEPS};
 use network::{GroupEntry, Kind, Link};
@@ -33,7 +33,7 @@ impl<'a> Run<'a> {
         if steps == 0 || steps > MOST_STEPS {
             return Err(OpenRefusal::Limits);
         }
-        let n = steps as usize;
+        let n = usize::from(steps);
         if entries.len() < n || links.len() < count {
             return Err(OpenRefusal::Tables);
         }
@@ -62,7 +62,7 @@ impl<'a> Run<'a> {
 fn leads_itself(steps: u8, entries: &[GroupEntry], step: u8) -> bool
     ensures { MatchBool result (LeadsItself steps entries.now step) (LeadsItself steps entries.now step → ⊥) }
 {
-    let entry = entry_of(entries, step as usize);
+    let entry = entry_of(entries, usize::from(step));
     step < steps && entry.leader == step && entry.offset == 0
 }
 
@@ -70,7 +70,7 @@ fn leads_itself(steps: u8, entries: &[GroupEntry], step: u8) -> bool
 fn entries_fit(steps: u8, entries: &[GroupEntry]) -> bool
     ensures { MatchBool result (EntriesFit steps entries.now) (EntriesFit steps entries.now → ⊥) }
 {
-    for step in 0..steps as usize {
+    for step in 0..usize::from(steps) {
         let entry = entry_of(entries, step);
         if !leads_itself(steps, entries, entry.leader) || entry.offset > LAST {
             return false;
@@ -98,7 +98,7 @@ fn links_fit(steps: u8, entries: &[GroupEntry], links: &[Link]) -> bool
 fn spans_of(links: &[Link]) -> [Span; MOST]
     ensures { SpansSoFar links.now result (length links.now) }
 {
-    let mut spans = [NO_SPAN; MOST];
+    let mut spans = [Span::default(); MOST];
     for place in 0..links.len() {
         let trigger = links[place].trigger;
         let start = span_of(&spans, trigger).first(place);
@@ -106,7 +106,7 @@ fn spans_of(links: &[Link]) -> [Span; MOST]
             start,
             end: place + 1,
         };
-        put(&mut spans, trigger as usize, span);
+        put(&mut spans, usize::from(trigger), span);
     }
     spans
 }
@@ -121,8 +121,8 @@ fn waits_of(links: &[Link]) -> [usize; MOST]
         match link.kind {
             Kind::Most => {}
             Kind::Least => {
-                let target = link.target as usize;
-                let more = get(&waits, target, 0).saturating_add(1);
+                let target = usize::from(link.target);
+                let more = waits.get(target).copied().unwrap_or(0).saturating_add(1);
                 put(&mut waits, target, more);
             }
         }

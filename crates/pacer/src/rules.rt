@@ -1,13 +1,11 @@
 // The tests of cue and wait, over the parts of a run.
 ghost use Rattle.std.specs.Prelude.{◌≡◌, MatchBool};
-ghost use Rattle.std.specs.Option.{option_map};
 ghost use Rattle.network.specs.Groups.{group_at as entry_of};
-ghost use Rattle.pacer.specs.Refusals.{cue_number, wait_number};
+ghost use Rattle.pacer.specs.Refusals.{cue_number, refused_with, wait_number};
 ghost use Rattle.pacer.specs.Rules.{CueAnswer, NotYet, Overdue, SomeUncued, TooEarly, WaitAnswer, upper_end};
 
 use crate::group::Call;
 use crate::refusal::{CueRefusal, WaitRefusal};
-use crate::slots::get;
 use crate::state::State;
 use network::GroupEntry;
 
@@ -21,7 +19,7 @@ const NO_ENTRY: GroupEntry = GroupEntry {
 pub(crate) fn entry_of(entries: &[GroupEntry], step: usize) -> GroupEntry
     ensures { result ≡ entry_of entries.now step }
 {
-    get(entries, step, NO_ENTRY)
+    entries.get(step).copied().unwrap_or(NO_ENTRY)
 }
 
 /// The upper end of a step, which is the same for every call.
@@ -35,63 +33,63 @@ pub(crate) fn upper_end(state: &State, entries: &[GroupEntry], step: usize, call
         .latest
 }
 
-/// Why a cue of the step at the time is refused, if it is.
-pub(crate) fn refuse_cue(
+/// Whether a cue of the step at the time is taken, or why it is refused.
+pub(crate) fn may_cue(
     steps: u8,
     state: &State,
     entries: &[GroupEntry],
     step: usize,
     time: u32,
-) -> Option<CueRefusal>
-    ensures { CueAnswer steps entries.now state.entry.now step time (option_map cue_number result) }
+) -> Result<(), CueRefusal>
+    ensures { CueAnswer steps entries.now state.entry.now step time (refused_with cue_number result) }
 {
-    if step >= steps as usize {
-        return Some(CueRefusal::NoSuchStep);
+    if step >= usize::from(steps) {
+        return Err(CueRefusal::NoSuchStep);
     }
     if state.cue(step).is_some() {
-        return Some(CueRefusal::Cued);
+        return Err(CueRefusal::Cued);
     }
     if time < state.now {
-        return Some(CueRefusal::Past);
+        return Err(CueRefusal::Past);
     }
     if overdue(steps, state, entries, Call::Cue, time) {
-        return Some(CueRefusal::Late);
+        return Err(CueRefusal::Late);
     }
     if not_yet(state, entries, step) {
-        return Some(CueRefusal::NotReady);
+        return Err(CueRefusal::NotReady);
     }
     if too_early(state, entries, step, time) {
-        return Some(CueRefusal::Early);
+        return Err(CueRefusal::Early);
     }
-    None
+    Ok(())
 }
 
-/// Why a wait until the time is refused, if it is.
-pub(crate) fn refuse_wait(
+/// Whether a wait until the time is taken, or why it is refused.
+pub(crate) fn may_wait(
     steps: u8,
     state: &State,
     entries: &[GroupEntry],
     time: u32,
-) -> Option<WaitRefusal>
-    ensures { WaitAnswer steps entries.now state.entry.now time (option_map wait_number result) }
+) -> Result<(), WaitRefusal>
+    ensures { WaitAnswer steps entries.now state.entry.now time (refused_with wait_number result) }
 {
     if !some_uncued(steps, state) {
-        return Some(WaitRefusal::AllCued);
+        return Err(WaitRefusal::AllCued);
     }
     if time < state.now {
-        return Some(WaitRefusal::Past);
+        return Err(WaitRefusal::Past);
     }
     if overdue(steps, state, entries, Call::Wait, time) {
-        return Some(WaitRefusal::Late);
+        return Err(WaitRefusal::Late);
     }
-    None
+    Ok(())
 }
 
 // Whether some step is not cued.
 fn some_uncued(steps: u8, state: &State) -> bool
     ensures { MatchBool result (SomeUncued steps state.entry.now) (SomeUncued steps state.entry.now → ⊥) }
 {
-    for step in 0..steps as usize {
+    for step in 0..usize::from(steps) {
         if state.cue(step).is_none() {
             return true;
         }
@@ -103,8 +101,8 @@ fn some_uncued(steps: u8, state: &State) -> bool
 fn overdue(steps: u8, state: &State, entries: &[GroupEntry], call: Call, time: u32) -> bool
     ensures { MatchBool result (Overdue steps entries.now state.entry.now time) (Overdue steps entries.now state.entry.now time → ⊥) }
 {
-    for step in 0..steps as usize {
-        if state.cue(step).is_none() && upper_end(state, entries, step, call) < time as u64 {
+    for step in 0..usize::from(steps) {
+        if state.cue(step).is_none() && upper_end(state, entries, step, call) < u64::from(time) {
             return true;
         }
     }
@@ -127,5 +125,5 @@ fn too_early(state: &State, entries: &[GroupEntry], step: usize, time: u32) -> b
     let window = state
         .group(entry.leader)
         .window(Call::Cue, entry.offset, state.now);
-    (time as u64) < window.earliest
+    u64::from(time) < window.earliest
 }

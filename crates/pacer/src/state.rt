@@ -3,7 +3,7 @@ ghost use Rattle.std.specs.Prelude.{◌≡◌};
 ghost use Rattle.pacer.specs.States.{cue_at, group_at, waits_at, with_cue, with_fewer_waits, with_group};
 
 use crate::group::Group;
-use crate::slots::{get, put};
+use crate::slots::put;
 use bounds::limits::MOST_STEPS;
 
 /// The places of a run's arrays, one for each step that there can be.
@@ -26,27 +26,30 @@ impl State {
     pub(crate) fn group(&self, leader: u8) -> Group
         ensures { result ≡ group_at self.entry.now leader }
     {
-        get(&self.groups, leader as usize, NO_GROUP)
+        self.groups
+            .get(usize::from(leader))
+            .copied()
+            .unwrap_or(NO_GROUP)
     }
 
     /// When a step was cued, if it was.
     pub(crate) fn cue(&self, step: usize) -> Option<u32>
         ensures { result ≡ cue_at self.entry.now step }
     {
-        get(&self.cues, step, None)
+        self.cues.get(step).copied().flatten()
     }
 
     /// How many least links onto the group of a leader have a trigger whose group is open.
     pub(crate) fn waits(&self, leader: u8) -> usize
         ensures { result ≡ waits_at self.entry.now leader }
     {
-        get(&self.waits, leader as usize, 0)
+        self.waits.get(usize::from(leader)).copied().unwrap_or(0)
     }
 
     pub(crate) fn put_group(&mut self, leader: u8, group: Group)
         ensures { self.exit.now ≡ with_group self.entry.now leader group }
     {
-        put(&mut self.groups, leader as usize, group);
+        put(&mut self.groups, usize::from(leader), group);
     }
 
     pub(crate) fn put_cue(&mut self, step: usize, time: u32)
@@ -60,6 +63,6 @@ impl State {
         ensures { self.exit.now ≡ with_fewer_waits self.entry.now leader }
     {
         let fewer = self.waits(leader).saturating_sub(1);
-        put(&mut self.waits, leader as usize, fewer);
+        put(&mut self.waits, usize::from(leader), fewer);
     }
 }

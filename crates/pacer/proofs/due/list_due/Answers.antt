@@ -1,18 +1,24 @@
-use Rattle.std.proofs.Common.{◌≡◌, ℕ, ◌+◌, length, take, drop, is_some, sym, ap, ◌∙◌, subst, arith, rules}
+use Rattle.std.proofs.Common.{◌≡◌, ℕ, ◌+◌, length, take, drop, is_some, Option, sym, ap, ◌∙◌, subst, arith, rules}
 use Rattle.network.specs.Order.{due_before}
 use Rattle.queue.specs.Growing.{Gained}
 use Rattle.queue.proofs.Growing.{gained_none, gained_more, gained_same, gained_as}
 use Rattle.pacer.specs.Due.{Due, DueTable, uncued_count}
 use Rattle.pacer.proofs.Listing.{count_uncued, count_cued, count_front, due_more, due_apart, due_none, due_skipped, table_held}
+use Rattle.pacer.specs.States.{cue_at}
+use Rattle.pacer.specs.declared.state.State.{State}
 use Rattle.pacer.proofs.due.list_due.Goals as goal
 use Rattle.pacer.proofs.due.list_due.Goals.{then-is_none+in_ok-push_due, else-is_none}
+
+-- whether the step of this turn is cued
+cued_at : (s : State) (k j : ℕ) {o : Option ℕ} → j ≡ k → o ≡ cue_at s j → is_some (cue_at s k) ≡ is_some o
+cued_at s k j e at = ap (λ i. is_some (cue_at s i)) (sym e) ∙ ap is_some (sym at)
 
 pub loop-step-init : goal.loop-step-init
 loop-step-init c = (gained_none due_before 0 _ _ (due_none _ _), c.new-queue.ensures.empty)
 
 pub push_due-requires : goal.push_due-requires
 push_due-requires c =
-    let more = count_uncued c.args.state.now c.loop-step.step (ap is_some (sym c.cue.ensures) ∙ c.if-is_none.ensures) in
+    let more = count_uncued c.args.state.now c.loop-step.step (cued_at c.args.state.now c.loop-step.step _ (omega arith) c.cue.ensures ∙ c.if-is_none.ensures) in
     let front = count_front c.args.state.now (c.loop-step.step + 1) c.args.steps (omega arith) in
     omega (arith, more, front, c.loop-step.invariant.1, c.loop-step.invariant.0.size, ap length c.new-queue.ensures.kept, c.if-buffer-count_uncued.false, c.count_uncued.ensures)
 
@@ -23,14 +29,14 @@ loop-step-preserved c =
     let k = c.loop-step.step in
     elim c.if-is_none.branch [
       | then-is_none+in_ok-push_due w ↦ (
-          let test = ap is_some (sym c.cue.ensures) ∙ w.if-is_none.ensures in
+          let test = cued_at s k _ (omega arith) c.cue.ensures ∙ w.if-is_none.ensures in
           let more = count_uncued s k test in
           let pushed = w.in_ok-push_due.ensures in (
             gained_same due_before _ _ _ _ _ w.queue-is (gained_more due_before _ _ _ _ _ _ _ _ _ (omega (arith, more)) (due_more es s k test) (due_apart es s k) c.loop-step.invariant.0 pushed.gained),
             omega (arith, ap (λ q. q.len) w.queue-is, pushed.count, c.loop-step.invariant.1, more),
           ))
       | else-is_none w ↦ (
-          let test = ap is_some (sym c.cue.ensures) ∙ w.if-is_none.ensures in
+          let test = cued_at s k _ (omega arith) c.cue.ensures ∙ w.if-is_none.ensures in
           let less = count_cued s k test in (
             gained_same due_before _ _ _ _ _ w.queue-is (subst (λ (j : ℕ). Gained due_before j (Due (k + 1) es s) c.new-queue.result c.loop-step.queue) (sym less) (gained_as due_before _ _ _ _ _ (due_skipped es s k test) c.loop-step.invariant.0)),
             omega (arith, ap (λ q. q.len) w.queue-is, c.loop-step.invariant.1, less),

@@ -1,5 +1,4 @@
-use Rattle.std.proofs.Common.{ℕ, ◌+◌, List, get_or, sym, refl, ◌∙◌, subst, arith}
-use Rattle.pacer.specs.Fixing.{no_link}
+use Rattle.std.proofs.Common.{ℕ, ◌+◌, List, get_or, ◌≡◌, sym, ◌∙◌, subst, arith, rules}
 use Rattle.pacer.specs.Index.{WaitsSoFar}
 use Rattle.pacer.proofs.Beginning.{waits_first, waits_few, waits_most, waits_least}
 use Rattle.pacer.proofs.opening.waits_of.Goals as goal
@@ -18,6 +17,6 @@ loop-place-preserved c =
       | in-Least w ↦ (
           let few = waits_few links c.loop-place.waits place c.loop-place-test.true c.loop-place.invariant in
           subst P (sym (w.waits-is ∙ w.put.ensures))
-          (waits_least links _ place c.loop-place-test.true c.loop-place.invariant (get_or links place no_link).target w.saturating_add-more.result w.in-Least.is refl
-          (λ l. omega (arith, w.saturating_add-more.ensures, w.get.ensures, few _ l))))
+          (waits_least links _ place c.loop-place-test.true c.loop-place.invariant w.from-target.result w.saturating_add-more.result w.in-Least.is (search rules)
+          (λ l. (let read : w.unwrap_or.result ≡ get_or c.loop-place.waits w.from-target.result 0 = search rules in omega (arith, few _ l)))))
     ]

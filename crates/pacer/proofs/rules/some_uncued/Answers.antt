@@ -6,7 +6,7 @@ pub loop-step-init : goal.loop-step-init
 loop-step-init c step l = absurd (omega arith)
 
 pub returns-then-is_none : goal.returns-then-is_none
-returns-then-is_none c = (c.loop-step.step, record { inside = c.loop-step-test.true; waiting = sym c.cue.ensures ∙ none_from_test c.cue.result c.if-is_none.ensures })
+returns-then-is_none c = (c.loop-step.step, record { inside = omega arith; waiting = sym c.cue.ensures ∙ none_from_test c.cue.result c.if-is_none.ensures })
 
 pub loop-step-preserved : goal.loop-step-preserved
 loop-step-preserved c = below_more _ _ c.loop-step.invariant (λ uncued. some_from_test c.cue.result c.if-is_none.ensures (c.cue.ensures ∙ uncued.waiting))

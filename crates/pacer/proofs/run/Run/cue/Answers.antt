@@ -4,9 +4,9 @@ use Rattle.pacer.specs.Index.{Indexed}
 use Rattle.pacer.proofs.Indexing.{indexed_plain, indexed_cued}
 use Rattle.pacer.proofs.run.Run.cue.Goals as goal
 
-pub returns-in-Some : goal.returns-in-Some
-returns-in-Some c = record {
-  answer = c.in-Some.ensures;
+pub returns-in_err-may_cue : goal.returns-in_err-may_cue
+returns-in_err-may_cue c = record {
+  answer = search rules;
   state = search rules;
   kept = search rules;
   ready = λ right. (right, indexed_plain _ _ _ _ right);
@@ -16,12 +16,12 @@ pub returns : goal.returns
 returns c =
     let run = c.args.self.now in
     record {
-      answer = c.in_default.ensures;
+      answer = search rules;
       state = search rules;
       kept = search rules;
       ready = λ right. (
         (let P : State → Type 0 = Indexed run.entries.now run.links.now run.spans in
-            subst P (sym c.take_cue.ensures) (indexed_cued _ _ _ _ c.args.step c.args.time right)),
+            subst P (sym c.take_cue.ensures) (indexed_cued _ _ _ _ c.from-step.result c.args.time right)),
         indexed_plain _ _ _ _ right,
       );
     }

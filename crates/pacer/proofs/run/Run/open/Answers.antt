@@ -9,7 +9,7 @@ returns c =
     let m = c.args.count in
     let es = c.args.entries.now in
     let ks = c.args.links.now in
-    let all : n - 0 ≡ n = omega arith in
+    let all : c.from-n.result - 0 ≡ n = omega arith in
     let some : m - 0 ≡ m = omega arith in
     let start : LeadsItself n (take n es) 0 = subst (λ (k : ℕ). LeadsItself n (take k es) 0) all c.if-not-leads_itself.ensures in
     let entries : EntriesFit n (take n es) = subst (λ (k : ℕ). EntriesFit n (take k es)) all c.if-not-entries_fit.ensures in
@@ -33,6 +33,6 @@ returns c =
         entries = ap (λ k. take k es) all;
         links = ap (λ k. take k ks) some;
         begins = c.first_state-state.ensures;
-        ready = begins_indexed n (take (n - 0) es) (take (m - 0) ks) _ _ (omega (arith, c.if-steps-gt-MOST_STEPS.false)) (omega (arith, length-take (n - 0) es, c.if-entries-n.false)) c.if-not-entries_fit.ensures c.if-not-links_fit.ensures c.spans_of-spans.ensures c.first_state-state.ensures;
+        ready = begins_indexed n (take (c.from-n.result - 0) es) (take (m - 0) ks) _ _ (omega (arith, c.if-steps-gt-MOST_STEPS.false)) (omega (arith, length-take (c.from-n.result - 0) es, c.if-entries-n.false)) c.if-not-entries_fit.ensures c.if-not-links_fit.ensures c.spans_of-spans.ensures c.first_state-state.ensures;
       };
     }
