@@ -10,6 +10,7 @@ use Rattle.network.specs.declared.tables.Link.{Link}
 use Rattle.pacer.specs.declared.group.Group.TheVariants.{Open}
 use Rattle.pacer.specs.declared.index.Span.{Span}
 use Rattle.pacer.specs.declared.state.State.{State}
+use Rattle.pacer.specs.declared.tables.Tables.{Tables}
 use Rattle.pacer.specs.Fixing.{first_of, no_link, span_at}
 use Rattle.pacer.specs.Groups.{is_open, no_group}
 use Rattle.pacer.specs.Index.{is_least, least_onto, holds_back, count, Covered, Indexed, SpansSoFar, WaitsSoFar}
@@ -165,19 +166,19 @@ abbrev no_entry : GroupEntry
 no_entry = record { leader = 0; offset = 0 }
 
 -- a run that begins over tables that fit has its index right
-pub begins_indexed : (n : ℕ) (es : List GroupEntry) (links : List Link) (spans : List Span) (s : State) → n ≤ most_steps → length es ≡ n → EntriesFit n es → LinksFit n es links
-    → SpansSoFar links spans (length links) → Begins links spans s → Indexed es links spans s
-begins_indexed n es links spans s small long entries fits index begins =
+pub begins_indexed : (t : Tables) (s : State) → t.steps ≤ most_steps → length t.entries.now ≡ t.steps → EntriesFit t.steps t.entries.now → LinksFit t.steps t.entries.now t.links.now
+    → SpansSoFar t.links.now t.spans (length t.links.now) → Begins t s → Indexed t s
+begins_indexed t s small long entries fits index begins =
     let w = begins.waits in
-    let first : Indexed es links spans (fresh w) = record {
-      leaders = λ step. elim (cases_lt step n) [
+    let first : Indexed t (fresh w) = record {
+      leaders = λ step. elim (cases_lt step t.steps) [
         | inl l ↦ omega (arith, (entries step l).leads.inside)
-        | inr past ↦ omega (arith, ap (λ e. e.leader) (get_or_past es step no_entry (omega arith)))
+        | inr past ↦ omega (arith, ap (λ e. e.leader) (get_or_past t.entries.now step no_entry (omega arith)))
       ];
       sized = record { groups = length-replicate most_steps (Open 0 horizon); waits = begins.sized };
       covers = λ place l. index.covers place l (omega (arith, (fits place l).trigger.inside));
-      counts = λ leader l. begins.counted leader l ∙ count_same (least_onto leader) (holds_back (fresh w) leader) (λ k. and_true (least_onto leader k) _ (fresh_open w k.trigger)) links;
+      counts = λ leader l. begins.counted leader l ∙ count_same (least_onto leader) (holds_back (fresh w) leader) (λ k. and_true (least_onto leader k) _ (fresh_open w k.trigger)) t.links.now;
     } in
     let open_start : is_open (group_at (fresh w) 0) ≡ true = fresh_open w 0 in
-    let fixed_first = indexed_fixed es links spans (fresh w) first 0 0 (omega arith) open_start in
-    indexed_same es links spans _ s (ap (λ t. t.groups) begins.begun) (ap (λ t. t.waits) begins.begun) fixed_first
+    let fixed_first = indexed_fixed t (fresh w) first 0 0 (omega arith) open_start in
+    indexed_same t _ s (ap (λ s. s.groups) begins.begun) (ap (λ s. s.waits) begins.begun) fixed_first

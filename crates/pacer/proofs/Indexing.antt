@@ -3,17 +3,16 @@ use Rattle.std.proofs.Common.{◌≡◌, ℕ, zero, suc, ◌+◌, ◌-◌, ◌<�
 use Rattle.std.proofs.lemmas.List.{get_or-set_same, get_or-set_other, set_past}
 use Rattle.std.proofs.lemmas.Bool.{cases_eq, cases_lt, cases_Bool, eq-eqb, ne_eqb, eqb-true, cond-true, cond-false, cond_both}
 use Rattle.bounds.specs.Limits.{most_steps}
-use Rattle.network.specs.declared.tables.GroupEntry.{GroupEntry}
 use Rattle.network.specs.declared.tables.Kind.{Kind}
 use Rattle.network.specs.declared.tables.Kind.TheVariants.{Most, Least}
 use Rattle.network.specs.declared.tables.Link.{Link}
 use Rattle.pacer.specs.declared.group.Group.{Group}
 use Rattle.pacer.specs.declared.group.Group.TheVariants.{Open, Fixed}
-use Rattle.pacer.specs.declared.index.Span.{Span}
 use Rattle.pacer.specs.declared.state.State.{State}
+use Rattle.pacer.specs.declared.tables.Tables.{Tables}
 use Rattle.network.specs.Groups.{group_at as entry_of}
 use Rattle.pacer.specs.Calls.{cued, settled}
-use Rattle.pacer.specs.Fixing.{after_link, applied, fixed, no_link, one_wait_less, span_at, spanned}
+use Rattle.pacer.specs.Fixing.{after_link, applied, fixed, no_link, one_wait_less, own_links, span_at}
 use Rattle.pacer.specs.Groups.{is_open, narrowed, no_group}
 use Rattle.pacer.specs.Index.{is_least, least_onto, holds_back, count, Indexed, Plain}
 use Rattle.pacer.specs.States.{group_at, waits_at, with_group}
@@ -176,62 +175,61 @@ count_some test (k ∷ ks) = (forth (count_some test ks).0, back (count_some tes
     back rest (zero, q, at) = omega (arith, cond-true {A = ℕ} (test k) 1 0 at)
     back rest (suc i, q, at) = omega (arith, rest (i, omega arith, at))
 
-module _ (es : List GroupEntry) (links : List Link) (spans : List Span) (s : State) (indexed : Indexed es links spans s) where
-  own_part : (leader time : ℕ) (before : State) → fixed leader time (spanned (span_at spans leader) links) before ≡ fixed leader time links before
+module _ (t : Tables) (s : State) (indexed : Indexed t s) where
+  own_part : (leader time : ℕ) (before : State) → fixed leader time (own_links t leader) before ≡ fixed leader time t.links.now before
   own_part leader time before =
-      applied_part leader time (span_at spans leader).start (span_at spans leader).end links (with_group before leader (Fixed time))
+      applied_part leader time (span_at t.spans leader).start (span_at t.spans leader).end t.links.now (with_group before leader (Fixed time))
       (λ i l e. (
-      let is : (get_or links i no_link).trigger ≡ leader = eqb-true _ _ e in
+      let is : (get_or t.links.now i no_link).trigger ≡ leader = eqb-true _ _ e in
       let at = indexed.covers i l in
-      (omega (arith, at.from, ap (λ x. (span_at spans x).start) is), omega (arith, at.to, ap (λ x. (span_at spans x).end) is))))
+      (omega (arith, at.from, ap (λ x. (span_at t.spans x).start) is), omega (arith, at.to, ap (λ x. (span_at t.spans x).end) is))))
 
-  pub indexed_plain : Plain links spans s
+  pub indexed_plain : Plain t s
   indexed_plain = record {
     own = own_part;
     waits = λ leader l. (
         let is = indexed.counts leader l in
-        let some = count_some (holds_back s leader) links in
+        let some = count_some (holds_back s leader) t.links.now in
         (λ h. some.0 (omega (arith, is)), λ h. omega (arith, is, some.1 h)));
   }
 
   -- an open group is fixed
-  pub indexed_fixed : (leader time : ℕ) → leader < most_steps → is_open (group_at s leader) ≡ true → Indexed es links spans (fixed leader time (spanned (span_at spans leader) links) s)
+  pub indexed_fixed : (leader time : ℕ) → leader < most_steps → is_open (group_at s leader) ≡ true → Indexed t (fixed leader time (own_links t leader) s)
   indexed_fixed leader time l was = rw (own_part leader time s) record {
     leaders = indexed.leaders;
     sized = record {
-      groups = (sizes_applied leader time links there).0 ∙ length-set s.groups leader (Fixed time) ∙ indexed.sized.groups;
-      waits = (sizes_applied leader time links there).1 ∙ indexed.sized.waits;
+      groups = (sizes_applied leader time t.links.now there).0 ∙ length-set s.groups leader (Fixed time) ∙ indexed.sized.groups;
+      waits = (sizes_applied leader time t.links.now there).1 ∙ indexed.sized.waits;
     };
     covers = indexed.covers;
     counts = λ g q. (
-        let left = waits_applied leader time links there g (omega (arith, indexed.sized.waits)) in
-        let split = count_fixed leader g s (fixed leader time links s) links was closed others in
+        let left = waits_applied leader time t.links.now there g (omega (arith, indexed.sized.waits)) in
+        let split = count_fixed leader g s (fixed leader time t.links.now s) t.links.now was closed others in
         omega (arith, left, split, indexed.counts g q));
   }
     where
       there : State
       there = with_group s leader (Fixed time)
 
-      closed : is_open (group_at (fixed leader time links s) leader) ≡ false
-      closed = open_applied leader time links there leader ∙ ap is_open (group_same s leader (Fixed time) (omega (arith, indexed.sized.groups)))
+      closed : is_open (group_at (fixed leader time t.links.now s) leader) ≡ false
+      closed = open_applied leader time t.links.now there leader ∙ ap is_open (group_same s leader (Fixed time) (omega (arith, indexed.sized.groups)))
 
-      others : (x : ℕ) → (x ≡ leader → ⊥) → is_open (group_at (fixed leader time links s) x) ≡ is_open (group_at s x)
-      others x ne = open_applied leader time links there x ∙ ap is_open (group_other s leader (Fixed time) x ne)
+      others : (x : ℕ) → (x ≡ leader → ⊥) → is_open (group_at (fixed leader time t.links.now s) x) ≡ is_open (group_at s x)
+      others x ne = open_applied leader time t.links.now there x ∙ ap is_open (group_other s leader (Fixed time) x ne)
 
 -- what else a call alters leaves the index right
-pub indexed_same : (es : List GroupEntry) (links : List Link) (spans : List Span) (s after : State) → after.groups ≡ s.groups → after.waits ≡ s.waits → Indexed es links spans s → Indexed es links spans after
-indexed_same es links spans s after groups waits indexed = record {
+pub indexed_same : (t : Tables) (s after : State) → after.groups ≡ s.groups → after.waits ≡ s.waits → Indexed t s → Indexed t after
+indexed_same t s after groups waits indexed = record {
   leaders = indexed.leaders;
   sized = record { groups = ap length groups ∙ indexed.sized.groups; waits = ap length waits ∙ indexed.sized.waits };
   covers = indexed.covers;
-  counts = λ g l. ap (λ ws. get_or ws g 0) waits ∙ indexed.counts g l ∙ ap (λ gs. count (λ k. least_onto g k && is_open (get_or gs k.trigger no_group)) links) (sym groups);
+  counts = λ g l. ap (λ ws. get_or ws g 0) waits ∙ indexed.counts g l ∙ ap (λ gs. count (λ k. least_onto g k && is_open (get_or gs k.trigger no_group)) t.links.now) (sym groups);
 }
 
 -- a cue that is taken
-pub indexed_cued : (es : List GroupEntry) (links : List Link) (spans : List Span) (s : State) (step t : ℕ) → Indexed es links spans s → Indexed es links spans (cued es links spans s step t)
-indexed_cued es links spans s step t indexed =
-    let leader = (entry_of es step).leader in
-    let part = spanned (span_at spans leader) links in
-    let moved : Indexed es links spans (settled es links spans s step t) =
-    cond_both (is_open (group_at s leader)) (fixed leader t part s) s (Indexed es links spans) (λ was. indexed_fixed es links spans s indexed leader t (indexed.leaders step) was) (λ _. indexed) in
-    indexed_same es links spans (settled es links spans s step t) (cued es links spans s step t) refl refl moved
+pub indexed_cued : (t : Tables) (s : State) (step time : ℕ) → Indexed t s → Indexed t (cued t s step time)
+indexed_cued t s step time indexed =
+    let leader = (entry_of t.entries.now step).leader in
+    let moved : Indexed t (settled t s step time) =
+    cond_both (is_open (group_at s leader)) (fixed leader time (own_links t leader) s) s (Indexed t) (λ was. indexed_fixed t s indexed leader time (indexed.leaders step) was) (λ _. indexed) in
+    indexed_same t (settled t s step time) (cued t s step time) refl refl moved

@@ -1,4 +1,5 @@
 pub mod Steps
+pub mod Chains
 pub mod Indexing
 pub mod Listing
 pub mod Beginning

@@ -8,11 +8,11 @@ use Rattle.pacer.specs.Fixing.{applied, after_link, no_link}
 
 pub none_from_test : {X : Type 0} (o : Option X) → is_some o ≡ false → o ≡ None
 none_from_test None e = refl
-none_from_test (Some x) e = let z : ◌≡◌ {A = ℕ} 0 1 = cc in absurd (omega arith)
+none_from_test (Some x) e = cc
 
 pub some_from_test : {X : Type 0} (o : Option X) → is_some o ≡ true → o ≡ None → ⊥
-some_from_test None e n = let z : ◌≡◌ {A = ℕ} 0 1 = cc in omega arith
-some_from_test (Some x) e n = let z : ◌≡◌ {A = ℕ} 0 1 = cc in omega arith
+some_from_test None e n = cc
+some_from_test (Some x) e n = cc
 
 -- a part that is cut to the length of the list
 pub spanned_part : {X : Type 0} (a b e s : ℕ) (xs : List X) → e ≡ min b (length xs) → s ≡ min a e → take (e - s) (drop s xs) ≡ drop a (take b xs)

@@ -6,6 +6,7 @@ use Rattle.network.specs.declared.tables.Link.{Link}
 use Rattle.pacer.specs.declared.group.Group.TheVariants.{Fixed}
 use Rattle.pacer.specs.declared.index.Span.{Span}
 use Rattle.pacer.specs.declared.state.State.{State}
+use Rattle.pacer.specs.declared.tables.Tables.{Tables}
 use Rattle.pacer.specs.Groups.{narrowed}
 use Rattle.pacer.specs.States.{group_at, with_group, with_fewer_waits}
 
@@ -38,6 +39,10 @@ first_of span place = cond (nat_lt span.start span.end) span.start place
 -- the links of a span
 abbrev pub spanned : Span → List Link → List Link
 spanned span links = drop span.start (take span.end links)
+
+-- the links of a leader's span
+abbrev pub own_links : Tables → ℕ → List Link
+own_links t leader = spanned (span_at t.spans leader) t.links.now
 
 -- the state once the group of a leader is fixed at a time
 abbrev pub fixed : ℕ → ℕ → List Link → State → State

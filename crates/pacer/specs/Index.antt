@@ -2,14 +2,13 @@
 use Rattle.std.specs.Prelude.{◌≡◌, ℕ, ◌+◌, ◌<◌, ◌≤◌, Bool, true, false, cond, ◌&&◌, ◌↔◌, List, [], ◌∷◌, length, get_or, take, ◌==◌, slice_index, slice_index_or}
 use Rattle.bounds.specs.Limits.{most_steps}
 use Rattle.network.specs.Groups.{group_at as entry_of}
-use Rattle.network.specs.declared.tables.GroupEntry.{GroupEntry}
 use Rattle.network.specs.declared.tables.Kind.{Kind}
 use Rattle.network.specs.declared.tables.Kind.TheVariants.{Most, Least}
 use Rattle.network.specs.declared.tables.Link.{Link}
 use Rattle.pacer.specs.declared.index.Span.{Span}
-use Rattle.pacer.specs.declared.run.Run.{Run}
 use Rattle.pacer.specs.declared.state.State.{State}
-use Rattle.pacer.specs.Fixing.{fixed, no_link, span_at, spanned}
+use Rattle.pacer.specs.declared.tables.Tables.{Tables}
+use Rattle.pacer.specs.Fixing.{fixed, no_link, own_links, span_at}
 use Rattle.pacer.specs.Groups.{is_open}
 use Rattle.pacer.specs.States.{group_at, waits_at}
 
@@ -40,29 +39,21 @@ pub record Sized (s : State) : Type 0 where
   pub groups : length s.groups ≡ most_steps
   pub waits : length s.waits ≡ most_steps
 
--- each link stands in the span of its trigger, and each group has the count of the least links onto it whose triggers' groups are open
-pub record Indexed (es : List GroupEntry) (links : List Link) (spans : List Span) (s : State) : Type 0 where
-  pub leaders : (step : ℕ) → (entry_of es step).leader < most_steps
+-- the index is right: each link stands in the span of its trigger, and each group has the count of the least links onto it whose triggers' groups are open
+pub record Indexed (t : Tables) (s : State) : Type 0 where
+  pub leaders : (step : ℕ) → (entry_of t.entries.now step).leader < most_steps
   pub sized : Sized s
-  pub covers : (place : ℕ) → place < length links → Covered links spans place
-  pub counts : (leader : ℕ) → leader < most_steps → waits_at s leader ≡ count (holds_back s leader) links
-
--- the index of a run is right
-abbrev pub Ready : Run → Type 0
-Ready r = Indexed r.entries.now r.links.now r.spans r.state
+  pub covers : (place : ℕ) → place < length t.links.now → Covered t.links.now t.spans place
+  pub counts : (leader : ℕ) → leader < most_steps → waits_at s leader ≡ count (holds_back s leader) t.links.now
 
 -- some least link onto the group of a leader has an open trigger
 abbrev pub WaitsFor : List Link → State → ℕ → Type 0
 WaitsFor links s leader = (place : ℕ) × (place < length links) × (holds_back s leader (slice_index_or links place no_link) ≡ true)
 
 -- what a right index is good for: the span of a leader stands for the whole table, and a count for the search for an open trigger
-pub record Plain (links : List Link) (spans : List Span) (s : State) : Type 0 where
-  pub own : (leader time : ℕ) (before : State) → fixed leader time (spanned (span_at spans leader) links) before ≡ fixed leader time links before
-  pub waits : (leader : ℕ) → leader < most_steps → (0 < waits_at s leader) ↔ WaitsFor links s leader
-
--- a call keeps the index right, and a right index stands for the tables: opening leaves it so, and every call keeps it
-abbrev pub StaysReady : Run → Run → Type 0
-StaysReady before after = Ready before → Ready after × Plain before.links.now before.spans before.state
+pub record Plain (t : Tables) (s : State) : Type 0 where
+  pub own : (leader time : ℕ) (before : State) → fixed leader time (own_links t leader) before ≡ fixed leader time t.links.now before
+  pub waits : (leader : ℕ) → leader < most_steps → (0 < waits_at s leader) ↔ WaitsFor t.links.now s leader
 
 -- while the index is made: the links before a place stand in the spans of their triggers, which end there
 pub record SpansSoFar (links : List Link) (spans : List Span) (place : ℕ) : Type 0 where

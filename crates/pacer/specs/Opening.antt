@@ -5,11 +5,11 @@ use Rattle.network.specs.Groups.{group_at as entry_of}
 use Rattle.network.specs.declared.tables.GroupEntry.{GroupEntry}
 use Rattle.network.specs.declared.tables.Link.{Link}
 use Rattle.pacer.specs.declared.group.Group.TheVariants.{Open}
-use Rattle.pacer.specs.declared.index.Span.{Span}
 use Rattle.pacer.specs.declared.run.Run.{Run}
 use Rattle.pacer.specs.declared.state.State.{State}
-use Rattle.pacer.specs.Fixing.{fixed, no_link, span_at, spanned}
-use Rattle.pacer.specs.Index.{Ready, count, least_onto}
+use Rattle.pacer.specs.declared.tables.Tables.{Tables}
+use Rattle.pacer.specs.Fixing.{fixed, no_link, own_links}
+use Rattle.pacer.specs.Index.{count, least_onto}
 use Rattle.pacer.specs.Refusals.{Given, Taken}
 use Rattle.pacer.specs.States.{with_cue}
 
@@ -47,19 +47,18 @@ abbrev pub fresh : List ℕ → State
 fresh waits = record { groups = replicate most_steps (Open 0 horizon); cues = replicate most_steps None; waits = waits; now = 0 }
 
 -- the state that a run begins with: step 0's group is fixed at 0, its links are applied, and step 0 is cued at 0
-pub record Begins (links : List Link) (spans : List Span) (s : State) : Type 0 where
+pub record Begins (t : Tables) (s : State) : Type 0 where
   pub waits : List ℕ
-  pub counted : (leader : ℕ) → leader < most_steps → slice_index waits leader ≡ count (least_onto leader) links
+  pub counted : (leader : ℕ) → leader < most_steps → slice_index waits leader ≡ count (least_onto leader) t.links.now
   pub sized : length waits ≡ most_steps
-  pub begun : s ≡ with_cue (fixed 0 0 (spanned (span_at spans 0) links) (fresh waits)) 0 0
+  pub begun : s ≡ with_cue (fixed 0 0 (own_links t 0) (fresh waits)) 0 0
 
--- a run over the used parts of the tables, in its first state, with its index right
+-- a run over the used parts of the tables, in its first state
 pub record Opened (n m : ℕ) (es : List GroupEntry) (ks : List Link) (r : Run) : Type 0 where
-  pub steps : r.steps ≡ n
-  pub entries : r.entries.now ≡ take n es
-  pub links : r.links.now ≡ take m ks
-  pub begins : Begins r.links.now r.spans r.state
-  pub ready : Ready r
+  pub steps : r.tables.steps ≡ n
+  pub entries : r.tables.entries.now ≡ take n es
+  pub links : r.tables.links.now ≡ take m ks
+  pub begins : Begins r.tables r.state
 
 -- n and m reach beyond the tables, or their parts do not fit together
 abbrev pub Unfit : ℕ → ℕ → List GroupEntry → List Link → Type 0

@@ -6,70 +6,60 @@ ghost use Rattle.pacer.specs.Due.{Listed, due_of, uncued_count};
 
 use crate::group::Call;
 use crate::refusal::Short;
-use crate::rules::upper_end;
 use crate::run::Run;
 use crate::state::State;
-use network::{DueEntry, GroupEntry};
+use crate::tables::Tables;
+use network::DueEntry;
 use queue::{Full, Queue};
 
 impl Run<'_> {
     /// Writes an entry for each uncued step to the front of the buffer, by upper end and then by step, and answers how many there are.
     pub fn list(&self, buffer: &mut [DueEntry]) -> Result<usize, Short>
-        ensures { Listed self.now.steps self.now.entries.now self.now.state buffer.old buffer.new result }
+        ensures { Listed self.now.tables self.now.state buffer.old buffer.new result }
     {
-        list_due(self.steps, &self.state, self.entries, buffer)
+        self.tables.list_due(&self.state, buffer)
     }
 }
 
-// The same, over the parts of a run.
-fn list_due(
-    steps: u8,
-    state: &State,
-    entries: &[GroupEntry],
-    buffer: &mut [DueEntry],
-) -> Result<usize, Short>
-    ensures { Listed steps entries.now state.entry.now buffer.old buffer.new result }
-{
-    if buffer.len() < count_uncued(steps, state) {
-        return Err(Short);
-    }
-    let mut queue = Queue::new(buffer);
-    for step in 0..steps {
-        if state.cue(usize::from(step)).is_none() {
-            push_due(state, entries, step, &mut queue)?;
+impl Tables<'_> {
+    // The same, over the parts of a run.
+    fn list_due(&self, state: &State, buffer: &mut [DueEntry]) -> Result<usize, Short>
+        ensures { Listed self.now state.entry.now buffer.old buffer.new result }
+    {
+        if buffer.len() < state.uncued_count(self.steps) {
+            return Err(Short);
         }
-    }
-    Ok(queue.len())
-}
-
-// How many steps are not cued.
-fn count_uncued(steps: u8, state: &State) -> usize
-    ensures { result ≡ uncued_count state.entry.now steps }
-{
-    let mut count = 0;
-    for step in 0..usize::from(steps) {
-        if state.cue(step).is_none() {
-            count += 1;
+        let mut queue = Queue::new(buffer);
+        for step in 0..self.steps {
+            if state.cue(usize::from(step)).is_none() {
+                self.push_due(state, step, &mut queue)?;
+            }
         }
+        Ok(queue.len())
     }
-    count
+
+    // Pushes the entry of one step.
+    fn push_due(&self, state: &State, step: u8, queue: &mut Queue<'_, DueEntry>) -> Result<(), Full>
+        requires { queue.old.len < length queue.old.slots.now }
+        ensures gained { MatchResult result (λ _. Gained due_before 1 (λ x. x ≡ due_of self.now state.entry.now step) queue.old queue.new) (λ _. ⊥) }
+        ensures count { MatchResult result (λ _. queue.new.len ≡ queue.old.len + 1) (λ _. ⊥) }
+    {
+        queue.push(DueEntry {
+            step: u16::from(step),
+            upper: self.upper_end(state, usize::from(step), Call::List),
+        })
+    }
 }
 
-// Pushes the entry of one step.
-fn push_due(
-    state: &State,
-    entries: &[GroupEntry],
-    step: u8,
-    queue: &mut Queue<'_, DueEntry>,
-) -> Result<(), Full>
-    requires { queue.old.len < length queue.old.slots.now }
-    ensures gained { MatchResult result (λ _. Gained due_before 1 (λ x. x ≡ due_of entries.now state.entry.now step) queue.old queue.new) (λ _. ⊥) }
-    ensures count { MatchResult result (λ _. queue.new.len ≡ queue.old.len + 1) (λ _. ⊥) }
-{
-    queue.push(DueEntry {
-        step: u16::from(step),
-        upper: upper_end(state, entries, usize::from(step), Call::List),
-    })
+impl State {
+    // How many of the steps are not cued.
+    fn uncued_count(&self, steps: u8) -> usize
+        ensures { result ≡ uncued_count self.entry.now steps }
+    {
+        (0..usize::from(steps))
+            .filter(|step| self.cue(*step).is_none())
+            .count()
+    }
 }
 
 // No slot is left for an entry.

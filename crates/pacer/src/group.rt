@@ -27,6 +27,18 @@ pub struct Window {
     pub latest: u64,
 }
 
+impl Window {
+    /// The window of one second.
+    pub(crate) fn at(time: u64) -> Window
+        ensures { result ≡ record { earliest = time; latest = time } }
+    {
+        Window {
+            earliest: time,
+            latest: time,
+        }
+    }
+}
+
 impl Group {
     /// When a step at this offset from the leader may start, as the call being handled sees it: only a look counts from now.
     pub(crate) fn window(self, call: Call, offset: u32, now: u32) -> Window
@@ -34,23 +46,12 @@ impl Group {
     {
         let later = u64::from(offset);
         match (self, call) {
-            (Group::Fixed { time }, _) => Window {
-                earliest: u64::from(time) + later,
-                latest: u64::from(time) + later,
-            },
+            (Group::Fixed { time }, _) => Window::at(u64::from(time) + later),
             (Group::Open { lower, upper }, Call::Look) => Window {
                 earliest: lower.saturating_add(later).max(u64::from(now)),
                 latest: u64::from(upper) + later,
             },
-            (Group::Open { lower, upper }, Call::Cue) => Window {
-                earliest: lower,
-                latest: u64::from(upper) + later,
-            },
-            (Group::Open { lower, upper }, Call::Wait) => Window {
-                earliest: lower,
-                latest: u64::from(upper) + later,
-            },
-            (Group::Open { lower, upper }, Call::List) => Window {
+            (Group::Open { lower, upper }, Call::Cue | Call::Wait | Call::List) => Window {
                 earliest: lower,
                 latest: u64::from(upper) + later,
             },
@@ -61,10 +62,7 @@ impl Group {
     pub(crate) fn is_open(self) -> bool
         ensures { result ≡ is_open self }
     {
-        match self {
-            Group::Open { .. } => true,
-            Group::Fixed { .. } => false,
-        }
+        matches!(self, Group::Open { .. })
     }
 
     /// The group with one end of its window at the bound, where that is narrower. A fixed group stays as it is.

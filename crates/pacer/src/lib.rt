@@ -12,6 +12,7 @@ mod rules;
 pub mod run;
 mod slots;
 pub mod state;
+mod tables;
 
 pub use group::Window;
 pub use refusal::{CueRefusal, NoSuchStep, OpenRefusal, Short, WaitRefusal};

@@ -1,17 +1,16 @@
 // Opening a run: the tests of the tables, the index of the links, and the first state.
 ghost use Rattle.std.specs.Prelude.{◌≡◌, length, IfOk, MatchBool};
 ghost use Rattle.pacer.specs.Index.{SpansSoFar, WaitsSoFar};
-ghost use Rattle.pacer.specs.Opening.{Begins, EntriesFit, LeadsItself, LinksFit, OpenAnswer, Opened};
+ghost use Rattle.pacer.specs.Opening.{Begins, EntriesFit, Fit, LeadsItself, LinksFit, OpenAnswer, Opened};
 ghost use Rattle.pacer.specs.Refusals.{open_number, refused_with};
 
-use crate::fixing::fix;
 use crate::group::Group;
 use crate::index::{Span, span_of};
 use crate::refusal::OpenRefusal;
-use crate::rules::entry_of;
 use crate::run::Run;
 use crate::slots::put;
 use crate::state::{MOST, State};
+use crate::tables::Tables;
 use bounds::limits::{HORIZON, MOST_STEPS};
 use network::{GroupEntry, Kind, Link};
 
@@ -37,61 +36,74 @@ impl<'a> Run<'a> {
         if entries.len() < n || links.len() < count {
             return Err(OpenRefusal::Tables);
         }
-        let entries = &entries[0..n];
         let links = &links[0..count];
-        let steps = steps as u8;
-        if !leads_itself(steps, entries, 0)
-            || !entries_fit(steps, entries)
-            || !links_fit(steps, entries, links)
-        {
+        let tables = Tables {
+            steps: steps as u8,
+            entries: &entries[0..n],
+            links,
+            spans: spans_of(links),
+        };
+        if !tables.fit() {
             return Err(OpenRefusal::Tables);
         }
-        let spans = spans_of(links);
-        let state = first_state(links, &spans);
-        Ok(Run {
-            steps,
-            entries,
-            links,
-            spans,
-            state,
+        let state = tables.first_state();
+        Ok(Run { tables, state })
+    }
+}
+
+impl Tables<'_> {
+    // Whether the tables fit together, and step 0 leads itself.
+    fn fit(&self) -> bool
+        requires { length self.now.entries.now ≡ self.now.steps }
+        ensures { MatchBool result (Fit self.now.steps self.now.entries.now self.now.links.now) (Fit self.now.steps self.now.entries.now self.now.links.now → ⊥) }
+    {
+        self.leads_itself(0) && self.entries_fit() && self.links_fit()
+    }
+
+    // Whether a step leads itself at offset 0.
+    fn leads_itself(&self, step: u8) -> bool
+        ensures { MatchBool result (LeadsItself self.now.steps self.now.entries.now step) (LeadsItself self.now.steps self.now.entries.now step → ⊥) }
+    {
+        let entry = self.entry(usize::from(step));
+        step < self.steps && entry.leader == step && entry.offset == 0
+    }
+
+    // Whether each step has a leader that leads itself, and an offset within the horizon.
+    fn entries_fit(&self) -> bool
+        requires { length self.now.entries.now ≡ self.now.steps }
+        ensures { MatchBool result (EntriesFit self.now.steps self.now.entries.now) (EntriesFit self.now.steps self.now.entries.now → ⊥) }
+    {
+        self.entries.iter().all(|entry| self.leads_itself(entry.leader) && entry.offset <= LAST)
+    }
+
+    // Whether each link joins two leaders, with seconds within the horizon.
+    fn links_fit(&self) -> bool
+        ensures { MatchBool result (LinksFit self.now.steps self.now.entries.now self.now.links.now) (LinksFit self.now.steps self.now.entries.now self.now.links.now → ⊥) }
+    {
+        self.links.iter().all(|link| {
+            self.leads_itself(link.trigger)
+                && self.leads_itself(link.target)
+                && link.seconds <= LAST
         })
     }
-}
 
-// Whether a step leads itself at offset 0.
-fn leads_itself(steps: u8, entries: &[GroupEntry], step: u8) -> bool
-    ensures { MatchBool result (LeadsItself steps entries.now step) (LeadsItself steps entries.now step → ⊥) }
-{
-    let entry = entry_of(entries, usize::from(step));
-    step < steps && entry.leader == step && entry.offset == 0
-}
-
-// Whether each step has a leader that leads itself, and an offset within the horizon.
-fn entries_fit(steps: u8, entries: &[GroupEntry]) -> bool
-    ensures { MatchBool result (EntriesFit steps entries.now) (EntriesFit steps entries.now → ⊥) }
-{
-    for step in 0..usize::from(steps) {
-        let entry = entry_of(entries, step);
-        if !leads_itself(steps, entries, entry.leader) || entry.offset > LAST {
-            return false;
-        }
+    // Every window whole but that of step 0's group, which is fixed at 0, and what its links say.
+    fn first_state(&self) -> State
+        ensures { Begins self.now result }
+    {
+        let mut state = State {
+            groups: [Group::Open {
+                lower: 0,
+                upper: LAST,
+            }; MOST],
+            cues: [None; MOST],
+            waits: waits_of(self.links),
+            now: 0,
+        };
+        state.fix(self.own_links(0), 0, 0);
+        state.put_cue(0, 0);
+        state
     }
-    true
-}
-
-// Whether each link joins two leaders, with seconds within the horizon.
-fn links_fit(steps: u8, entries: &[GroupEntry], links: &[Link]) -> bool
-    ensures { MatchBool result (LinksFit steps entries.now links.now) (LinksFit steps entries.now links.now → ⊥) }
-{
-    for link in links {
-        if !leads_itself(steps, entries, link.trigger)
-            || !leads_itself(steps, entries, link.target)
-            || link.seconds > LAST
-        {
-            return false;
-        }
-    }
-    true
 }
 
 // Notes for each trigger a span that has all of its links.
@@ -99,14 +111,13 @@ fn spans_of(links: &[Link]) -> [Span; MOST]
     ensures { SpansSoFar links.now result (length links.now) }
 {
     let mut spans = [Span::default(); MOST];
-    for place in 0..links.len() {
-        let trigger = links[place].trigger;
-        let start = span_of(&spans, trigger).first(place);
+    for (place, link) in links.iter().enumerate() {
+        let start = span_of(&spans, link.trigger).first(place);
         let span = Span {
             start,
             end: place + 1,
         };
-        put(&mut spans, usize::from(trigger), span);
+        put(&mut spans, usize::from(link.trigger), span);
     }
     spans
 }
@@ -116,8 +127,7 @@ fn waits_of(links: &[Link]) -> [usize; MOST]
     ensures { WaitsSoFar links.now result (length links.now) }
 {
     let mut waits = [0usize; MOST];
-    for place in 0..links.len() {
-        let link = links[place];
+    for link in links {
         match link.kind {
             Kind::Most => {}
             Kind::Least => {
@@ -128,23 +138,4 @@ fn waits_of(links: &[Link]) -> [usize; MOST]
         }
     }
     waits
-}
-
-// Every window whole but that of step 0's group, which is fixed at 0, and what its links say.
-fn first_state(links: &[Link], spans: &[Span]) -> State
-    ensures { Begins links.now spans.now result }
-{
-    let mut state = State {
-        groups: [Group::Open {
-            lower: 0,
-            upper: LAST,
-        }; MOST],
-        cues: [None; MOST],
-        waits: waits_of(links),
-        now: 0,
-    };
-    let own = span_of(spans, 0).of(links);
-    fix(&mut state, own, 0, 0);
-    state.put_cue(0, 0);
-    state
 }

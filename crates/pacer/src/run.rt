@@ -1,14 +1,13 @@
 // A run of a job over tables that it borrows.
-use crate::index::Span;
-use crate::state::{MOST, State};
-use network::{GroupEntry, Link};
+ghost use Rattle.pacer.specs.Index.{Indexed};
 
-/// The run of a job of so many steps. It reads its two tables for as long as it lives.
+use crate::state::State;
+use crate::tables::Tables;
+
+/// The run of a job: what it reads for as long as it lives, and how far it has come. Its index is right.
 #[derive(Drop)]
 pub struct Run<'a> {
-    pub(crate) steps: u8,
-    pub(crate) entries: &'a [GroupEntry],
-    pub(crate) links: &'a [Link],
-    pub(crate) spans: [Span; MOST],
+    pub(crate) tables: Tables<'a>,
     pub(crate) state: State,
+    pub ghost ready: { Indexed tables state },
 }

@@ -1,27 +1,13 @@
-use Rattle.std.proofs.Common.{sym, subst, rules}
-use Rattle.pacer.specs.declared.state.State.{State}
+use Rattle.std.proofs.Common.{sym, subst}
 use Rattle.pacer.specs.Index.{Indexed}
 use Rattle.pacer.proofs.Indexing.{indexed_plain, indexed_cued}
 use Rattle.pacer.proofs.run.Run.cue.Goals as goal
 
-pub returns-in_err-may_cue : goal.returns-in_err-may_cue
-returns-in_err-may_cue c = record {
-  answer = search rules;
-  state = search rules;
-  kept = search rules;
-  ready = λ right. (right, indexed_plain _ _ _ _ right);
-}
+pub returns-in_err-may_cue-clause-plain : goal.returns-in_err-may_cue-clause-plain
+returns-in_err-may_cue-clause-plain c = indexed_plain _ _ c.args.self.now.ready
 
-pub returns : goal.returns
-returns c =
-    let run = c.args.self.now in
-    record {
-      answer = search rules;
-      state = search rules;
-      kept = search rules;
-      ready = λ right. (
-        (let P : State → Type 0 = Indexed run.entries.now run.links.now run.spans in
-            subst P (sym c.take_cue.ensures) (indexed_cued _ _ _ _ c.from-step.result c.args.time right)),
-        indexed_plain _ _ _ _ right,
-      );
-    }
+pub returns-clause-plain : goal.returns-clause-plain
+returns-clause-plain c = indexed_plain _ _ c.args.self.now.ready
+
+pub invariant_of-self-2 : goal.invariant_of-self-2
+invariant_of-self-2 c = record { ready = subst (Indexed c.args.self.now.tables) (sym c.take_cue.ensures) (indexed_cued _ _ _ _ c.args.self.now.ready) }

@@ -1,7 +1,12 @@
 use Rattle.std.proofs.Common.{◌≡◌, ℕ, ◌-◌, take, refl, ap, subst, inl, inr, arith, length-take}
-use Rattle.pacer.specs.Opening.{Fit, LeadsItself, EntriesFit, LinksFit}
+use Rattle.pacer.specs.Opening.{Fit}
 use Rattle.pacer.proofs.Beginning.{begins_indexed}
 use Rattle.pacer.proofs.run.Run.open.Goals as goal
+
+pub invariant_of-result : goal.invariant_of-result
+invariant_of-result c = record {
+  ready = begins_indexed _ _ (omega (arith, c.if-steps-gt-MOST_STEPS.false)) (omega (arith, length-take (c.from-n.result - 0) c.args.entries.now)) c.if-not-fit.ensures.entries c.if-not-fit.ensures.links c.spans_of.ensures c.first_state-state.ensures;
+}
 
 pub returns : goal.returns
 returns c =
@@ -11,11 +16,8 @@ returns c =
     let ks = c.args.links.now in
     let all : c.from-n.result - 0 ≡ n = omega arith in
     let some : m - 0 ≡ m = omega arith in
-    let start : LeadsItself n (take n es) 0 = subst (λ (k : ℕ). LeadsItself n (take k es) 0) all c.if-not-leads_itself.ensures in
-    let entries : EntriesFit n (take n es) = subst (λ (k : ℕ). EntriesFit n (take k es)) all c.if-not-entries_fit.ensures in
-    let links : LinksFit n (take n es) (take m ks) =
-    subst (λ (k : ℕ). LinksFit n (take n es) (take k ks)) some (subst (λ (k : ℕ). LinksFit n (take k es) (take (m - 0) ks)) all c.if-not-links_fit.ensures) in
-    let fit : Fit n (take n es) (take m ks) = record { start = start; entries = entries; links = links } in
+    let fit : Fit n (take n es) (take m ks) =
+    subst (λ (k : ℕ). Fit n (take n es) (take k ks)) some (subst (λ (k : ℕ). Fit n (take k es) (take (m - 0) ks)) all c.if-not-fit.ensures) in
     record {
       answer = inr (
         λ e. elim e [ inl z ↦ c.if-steps-eq0.false z | inr l ↦ omega (arith, l, c.if-steps-gt-MOST_STEPS.false) ],
@@ -33,6 +35,5 @@ returns c =
         entries = ap (λ k. take k es) all;
         links = ap (λ k. take k ks) some;
         begins = c.first_state-state.ensures;
-        ready = begins_indexed n (take (c.from-n.result - 0) es) (take (m - 0) ks) _ _ (omega (arith, c.if-steps-gt-MOST_STEPS.false)) (omega (arith, length-take (c.from-n.result - 0) es, c.if-entries-n.false)) c.if-not-entries_fit.ensures c.if-not-links_fit.ensures c.spans_of-spans.ensures c.first_state-state.ensures;
       };
     }
