@@ -1,6 +1,7 @@
 -- The index and the first state of a run.
-use Rattle.std.proofs.Common.{◌≡◌, ℕ, zero, suc, ◌+◌, ◌<◌, ◌≤◌, Bool, true, false, cond, ◌&&◌, eqb, ltb, List, [], ◌∷◌, length, get_or, take, set, replicate, sym, refl, ap, ◌∙◌, inl, inr, add-one, arith, length-set}
+use Rattle.std.proofs.Common.{◌≡◌, ℕ, zero, suc, ◌+◌, ◌<◌, ◌≤◌, Bool, true, false, cond, ◌&&◌, eqb, ltb, List, [], ◌∷◌, length, get_or, count_by, take, set, replicate, sym, refl, ap, ◌∙◌, inl, inr, arith, length-set, length-take}
 use lib.ListN.{length-replicate}
+use Rattle.std.proofs.lemmas.List.Sums.{count_by-le-length, sum_by_more}
 use Rattle.std.proofs.lemmas.List.{get_or-set_same, get_or-set_other, get_or_past, set_past}
 use Rattle.std.proofs.lemmas.Bool.{cases_eq, cases_lt, lt-ltb, le-ltb, eq-eqb, ne_eqb, cond-true, cond-false}
 use Rattle.bounds.specs.Limits.{horizon, most_steps}
@@ -13,10 +14,10 @@ use Rattle.pacer.specs.declared.state.State.{State}
 use Rattle.pacer.specs.declared.tables.Tables.{Tables}
 use Rattle.pacer.specs.Fixing.{first_of, no_link, span_at}
 use Rattle.pacer.specs.Groups.{is_open, no_group}
-use Rattle.pacer.specs.Index.{is_least, least_onto, holds_back, count, Covered, Indexed, SpansSoFar, WaitsSoFar}
+use Rattle.pacer.specs.Index.{is_least, least_onto, holds_back, Covered, Indexed, SpansSoFar, WaitsSoFar}
 use Rattle.pacer.specs.Opening.{Begins, EntriesFit, LinksFit, fresh}
 use Rattle.pacer.specs.States.{group_at}
-use Rattle.pacer.proofs.Indexing.{indexed_fixed, indexed_same}
+use Rattle.pacer.proofs.Indexing.{count-cons, indexed_fixed, indexed_same}
 
 -- the default stands everywhere
 replicate_read : {X : Type 0} (n : ℕ) (x : X) (i : ℕ) → get_or (replicate n x) i x ≡ x
@@ -89,22 +90,13 @@ module _ (links : List Link) (spans : List Span) (place : ℕ) (far : SpansSoFar
     ];
   }
 
-count_more : (test : Link → Bool) (ks : List Link) (i : ℕ) → i < length ks → count test (take (i + 1) ks) ≡ count test (take i ks) + cond (test (get_or ks i no_link)) 1 0
-count_more test ks i l = ap (λ n. count test (take n ks)) (add-one i) ∙ go ks i l
-  where
-    go : (ks : List Link) (i : ℕ) → i < length ks → count test (take (suc i) ks) ≡ count test (take i ks) + cond (test (get_or ks i no_link)) 1 0
-    go [] i l = absurd (omega arith)
-    go (k ∷ ks) zero l = omega arith
-    go (k ∷ ks) (suc i) l = omega (arith, go ks i (omega arith))
+-- one link more is counted, or not
+count_more : (test : Link → Bool) (ks : List Link) (i : ℕ) → i < length ks → count_by test (take (i + 1) ks) ≡ count_by test (take i ks) + cond (test (get_or ks i no_link)) 1 0
+count_more test ks i l = sum_by_more (λ k. cond (test k) 1 0) ks i no_link l
 
-count_few : (test : Link → Bool) (ks : List Link) (i : ℕ) → count test (take i ks) ≤ i
-count_few test ks zero = omega arith
-count_few test [] (suc i) = omega arith
-count_few test (k ∷ ks) (suc i) = omega (arith, count_few test ks i, one (test k))
-  where
-    one : (b : Bool) → cond b 1 0 ≤ 1
-    one true = omega arith
-    one false = omega arith
+-- no more are counted than there are
+count_few : (test : Link → Bool) (ks : List Link) (i : ℕ) → count_by test (take i ks) ≤ i
+count_few test ks i = omega (arith, count_by-le-length test (take i ks), length-take i ks)
 
 pub waits_first : (links : List Link) → WaitsSoFar links (replicate most_steps 0) 0
 waits_first links = record { sized = length-replicate {A = ℕ} most_steps 0; counts = λ leader l. replicate_read most_steps 0 leader }
@@ -153,9 +145,9 @@ fresh_open waits leader = go most_steps leader
     go (suc n) zero = refl
     go (suc n) (suc i) = go n i
 
-count_same : (p q : Link → Bool) → ((k : Link) → p k ≡ q k) → (ks : List Link) → count p ks ≡ count q ks
+count_same : (p q : Link → Bool) → ((k : Link) → p k ≡ q k) → (ks : List Link) → count_by p ks ≡ count_by q ks
 count_same p q same [] = refl
-count_same p q same (k ∷ ks) = ap (λ b. cond b 1 0 + count p ks) (same k) ∙ ap (λ n. cond (q k) 1 0 + n) (count_same p q same ks)
+count_same p q same (k ∷ ks) = omega (arith, count-cons p k ks, count-cons q k ks, ap (λ b. cond {A = ℕ} b 1 0) (same k), count_same p q same ks)
 
 and_true : (b c : Bool) → c ≡ true → b ≡ (b && c)
 and_true true c e = sym e
@@ -166,14 +158,14 @@ abbrev no_entry : GroupEntry
 no_entry = record { leader = 0; offset = 0 }
 
 -- a run that begins over tables that fit has its index right
-pub begins_indexed : (t : Tables) (s : State) → t.steps ≤ most_steps → length t.entries.now ≡ t.steps → EntriesFit t.steps t.entries.now → LinksFit t.steps t.entries.now t.links.now
+pub begins_indexed : (t : Tables) (s : State) → t.steps ≤ most_steps → EntriesFit t.steps t.entries.now → LinksFit t.steps t.entries.now t.links.now
     → SpansSoFar t.links.now t.spans (length t.links.now) → Begins t s → Indexed t s
-begins_indexed t s small long entries fits index begins =
+begins_indexed t s small entries fits index begins =
     let w = begins.waits in
     let first : Indexed t (fresh w) = record {
       leaders = λ step. elim (cases_lt step t.steps) [
         | inl l ↦ omega (arith, (entries step l).leads.inside)
-        | inr past ↦ omega (arith, ap (λ e. e.leader) (get_or_past t.entries.now step no_entry (omega arith)))
+        | inr past ↦ omega (arith, ap (λ e. e.leader) (get_or_past t.entries.now step no_entry (omega (arith, t.each))))
       ];
       sized = record { groups = length-replicate most_steps (Open 0 horizon); waits = begins.sized };
       covers = λ place l. index.covers place l (omega (arith, (fits place l).trigger.inside));

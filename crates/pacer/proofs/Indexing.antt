@@ -1,5 +1,6 @@
 -- The index stays right, and what it is good for.
-use Rattle.std.proofs.Common.{◌≡◌, ℕ, zero, suc, ◌+◌, ◌-◌, ◌<◌, ◌≤◌, Bool, true, false, cond, ◌&&◌, eqb, ◌↔◌, List, [], ◌∷◌, length, get_or, take, drop, set, sym, refl, ap, ◌∙◌, inl, inr, arith, length-set}
+use Rattle.std.proofs.Common.{◌≡◌, ℕ, zero, suc, ◌+◌, ◌-◌, ◌<◌, ◌≤◌, Bool, true, false, cond, ◌&&◌, eqb, ◌↔◌, List, [], ◌∷◌, length, get_or, count_by, take, drop, set, sym, refl, ap, ◌∙◌, inl, inr, arith, length-set}
+use Rattle.std.proofs.lemmas.List.Sums.{sum_by-cons}
 use Rattle.std.proofs.lemmas.List.{get_or-set_same, get_or-set_other, set_past}
 use Rattle.std.proofs.lemmas.Bool.{cases_eq, cases_lt, cases_Bool, eq-eqb, ne_eqb, eqb-true, cond-true, cond-false, cond_both}
 use Rattle.bounds.specs.Limits.{most_steps}
@@ -14,7 +15,7 @@ use Rattle.network.specs.Groups.{group_at as entry_of}
 use Rattle.pacer.specs.Calls.{cued, settled}
 use Rattle.pacer.specs.Fixing.{after_link, applied, fixed, no_link, one_wait_less, own_links, span_at}
 use Rattle.pacer.specs.Groups.{is_open, narrowed, no_group}
-use Rattle.pacer.specs.Index.{is_least, least_onto, holds_back, count, Indexed, Plain}
+use Rattle.pacer.specs.Index.{is_least, least_onto, holds_back, Indexed, Plain}
 use Rattle.pacer.specs.States.{group_at, waits_at, with_group}
 
 -- a link with this trigger
@@ -110,6 +111,10 @@ module _ (time : ℕ) (k : Link) (s : State) where
     (sizes_one_less k.kind k.target there).1,
   )
 
+-- one link more is counted, or not
+pub count-cons : (test : Link → Bool) (k : Link) (ks : List Link) → count_by test (k ∷ ks) ≡ cond (test k) 1 0 + count_by test ks
+count-cons test k ks = sum_by-cons (λ k. cond (test k) 1 0) k ks
+
 -- the least links onto a group that a leader triggers
 abbrev own_onto : ℕ → ℕ → Link → Bool
 own_onto leader g k = own leader k && least_onto g k
@@ -128,7 +133,7 @@ sizes_applied leader time (k ∷ ks) s =
     let here = cond_both (own leader k) (after_link time k s) s (λ r. (length r.groups ≡ length s.groups) × (length r.waits ≡ length s.waits)) (λ _. sizes_after_link time k s) (λ _. (refl, refl)) in
     (rest.0 ∙ here.0, rest.1 ∙ here.1)
 
-waits_applied : (leader time : ℕ) (ks : List Link) (s : State) (g : ℕ) → g < length s.waits → waits_at (applied leader time ks s) g ≡ waits_at s g - count (own_onto leader g) ks
+waits_applied : (leader time : ℕ) (ks : List Link) (s : State) (g : ℕ) → g < length s.waits → waits_at (applied leader time ks s) g ≡ waits_at s g - count_by (own_onto leader g) ks
 waits_applied leader time [] s g l = omega arith
 waits_applied leader time (k ∷ ks) s g l =
     let next = cond (own leader k) (after_link time k s) s in
@@ -137,12 +142,12 @@ waits_applied leader time (k ∷ ks) s g l =
     cond_both (own leader k) (after_link time k s) s (λ r. waits_at r g ≡ waits_at s g - cond (own_onto leader g k) 1 0)
     (λ e. waits_after_link time k s g l ∙ ap (λ b. waits_at s g - cond (b && least_onto g k) 1 0) (sym e))
     (λ e. (let none : ◌≡◌ {A = ℕ} (cond {A = ℕ} (own_onto leader g k) 1 0) 0 = ap (λ b. cond {A = ℕ} (b && least_onto g k) 1 0) e in omega arith)) in
-    omega (arith, waits_applied leader time ks next g (omega arith), here)
+    omega (arith, waits_applied leader time ks next g (omega arith), here, count-cons (own_onto leader g) k ks)
 
 -- a link holds a group back before its trigger's group is fixed: it still does afterwards, or it was one of that trigger's
 count_fixed : (leader g : ℕ) (s after : State) (ks : List Link) → is_open (group_at s leader) ≡ true → is_open (group_at after leader) ≡ false
     → ((x : ℕ) → (x ≡ leader → ⊥) → is_open (group_at after x) ≡ is_open (group_at s x))
-    → count (holds_back s g) ks ≡ count (holds_back after g) ks + count (own_onto leader g) ks
+    → count_by (holds_back s g) ks ≡ count_by (holds_back after g) ks + count_by (own_onto leader g) ks
 count_fixed leader g s after [] was is others = refl
 count_fixed leader g s after (k ∷ ks) was is others =
     let rest = count_fixed leader g s after ks was is others in
@@ -150,7 +155,7 @@ count_fixed leader g s after (k ∷ ks) was is others =
       | inl e ↦ by_tests (least_onto g k) _ _ _ (ap (λ x. is_open (group_at s x)) e ∙ was) (ap (λ x. is_open (group_at after x)) e ∙ is) (eq-eqb _ _ e)
       | inr ne ↦ by_others (least_onto g k) _ _ _ (others k.trigger ne) (ne_eqb _ _ ne)
     ] in
-    omega (arith, rest, one)
+    omega (arith, rest, one, count-cons (holds_back s g) k ks, count-cons (holds_back after g) k ks, count-cons (own_onto leader g) k ks)
   where
     by_tests : (least now later mine : Bool) → now ≡ true → later ≡ false → mine ≡ true → cond (least && now) 1 0 ≡ cond (least && later) 1 0 + cond (mine && least) 1 0
     by_tests true now later mine a b c = rw (a, b, c)
@@ -161,19 +166,19 @@ count_fixed leader g s after (k ∷ ks) was is others =
     by_others false now later mine a b = rw b
 
 -- some link passes exactly when the count is not 0
-count_some : (test : Link → Bool) (ks : List Link) → (0 < count test ks) ↔ ((i : ℕ) × (i < length ks) × (test (get_or ks i no_link) ≡ true))
+count_some : (test : Link → Bool) (ks : List Link) → (0 < count_by test ks) ↔ ((i : ℕ) × (i < length ks) × (test (get_or ks i no_link) ≡ true))
 count_some test [] = (λ l. absurd (omega arith), λ h. absurd (omega (arith, h.1)))
 count_some test (k ∷ ks) = (forth (count_some test ks).0, back (count_some test ks).1)
   where
-    forth : (0 < count test ks → (i : ℕ) × (i < length ks) × (test (get_or ks i no_link) ≡ true)) → 0 < count test (k ∷ ks) → (i : ℕ) × (i < length (k ∷ ks)) × (test (get_or (k ∷ ks) i no_link) ≡ true)
+    forth : (0 < count_by test ks → (i : ℕ) × (i < length ks) × (test (get_or ks i no_link) ≡ true)) → 0 < count_by test (k ∷ ks) → (i : ℕ) × (i < length (k ∷ ks)) × (test (get_or (k ∷ ks) i no_link) ≡ true)
     forth rest l = elim (cases_Bool (test k)) [
       | inl e ↦ (0, omega arith, e)
-      | inr e ↦ (let (i, q, at) = rest (omega (arith, cond-false {A = ℕ} (test k) 1 0 e)) in (suc i, omega arith, at))
+      | inr e ↦ (let (i, q, at) = rest (omega (arith, l, count-cons test k ks, cond-false {A = ℕ} (test k) 1 0 e)) in (suc i, omega arith, at))
     ]
 
-    back : ((i : ℕ) × (i < length ks) × (test (get_or ks i no_link) ≡ true) → 0 < count test ks) → (i : ℕ) × (i < length (k ∷ ks)) × (test (get_or (k ∷ ks) i no_link) ≡ true) → 0 < count test (k ∷ ks)
-    back rest (zero, q, at) = omega (arith, cond-true {A = ℕ} (test k) 1 0 at)
-    back rest (suc i, q, at) = omega (arith, rest (i, omega arith, at))
+    back : ((i : ℕ) × (i < length ks) × (test (get_or ks i no_link) ≡ true) → 0 < count_by test ks) → (i : ℕ) × (i < length (k ∷ ks)) × (test (get_or (k ∷ ks) i no_link) ≡ true) → 0 < count_by test (k ∷ ks)
+    back rest (zero, q, at) = omega (arith, count-cons test k ks, cond-true {A = ℕ} (test k) 1 0 at)
+    back rest (suc i, q, at) = omega (arith, count-cons test k ks, rest (i, omega arith, at))
 
 module _ (t : Tables) (s : State) (indexed : Indexed t s) where
   own_part : (leader time : ℕ) (before : State) → fixed leader time (own_links t leader) before ≡ fixed leader time t.links.now before
@@ -223,7 +228,7 @@ indexed_same t s after groups waits indexed = record {
   leaders = indexed.leaders;
   sized = record { groups = ap length groups ∙ indexed.sized.groups; waits = ap length waits ∙ indexed.sized.waits };
   covers = indexed.covers;
-  counts = λ g l. ap (λ ws. get_or ws g 0) waits ∙ indexed.counts g l ∙ ap (λ gs. count (λ k. least_onto g k && is_open (get_or gs k.trigger no_group)) t.links.now) (sym groups);
+  counts = λ g l. ap (λ ws. get_or ws g 0) waits ∙ indexed.counts g l ∙ ap (λ gs. count_by (λ k. least_onto g k && is_open (get_or gs k.trigger no_group)) t.links.now) (sym groups);
 }
 
 -- a cue that is taken

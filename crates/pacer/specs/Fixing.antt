@@ -1,5 +1,5 @@
 -- What fixing a group does: each of its own links narrows the window of its target.
-use Rattle.std.specs.Prelude.{ℕ, ◌+◌, cond, List, [], ◌∷◌, take, drop, ◌==◌, nat_lt, slice_index_or}
+use Rattle.std.specs.Prelude.{ℕ, ◌+◌, cond, List, fold, take, drop, ◌==◌, nat_lt, slice_index_or}
 use Rattle.network.specs.declared.tables.Kind.{Kind}
 use Rattle.network.specs.declared.tables.Kind.TheVariants.{Most, Least}
 use Rattle.network.specs.declared.tables.Link.{Link}
@@ -25,8 +25,7 @@ after_link time k s = one_wait_less k.kind k.target (with_group s k.target (narr
 
 -- the state after all links of a list with this trigger, from the first to the last
 abbrev pub applied : ℕ → ℕ → List Link → State → State
-applied leader time [] s = s
-applied leader time (k ∷ ks) s = applied leader time ks (cond (k.trigger == leader) (after_link time k s) s)
+applied leader time ks s = fold (λ s k. cond (k.trigger == leader) (after_link time k s) s) s ks
 
 -- the span of a leader
 abbrev pub span_at : List Span → ℕ → Span

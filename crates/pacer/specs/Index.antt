@@ -1,5 +1,5 @@
 -- The index of a run: where the links of each trigger stand, and for how many open groups each group waits.
-use Rattle.std.specs.Prelude.{◌≡◌, ℕ, ◌+◌, ◌<◌, ◌≤◌, Bool, true, false, cond, ◌&&◌, ◌↔◌, List, [], ◌∷◌, length, get_or, take, ◌==◌, slice_index, slice_index_or}
+use Rattle.std.specs.Prelude.{◌≡◌, ℕ, ◌<◌, ◌≤◌, Bool, true, false, ◌&&◌, ◌↔◌, List, length, get_or, count_by, take, ◌==◌, slice_index, slice_index_or}
 use Rattle.bounds.specs.Limits.{most_steps}
 use Rattle.network.specs.Groups.{group_at as entry_of}
 use Rattle.network.specs.declared.tables.Kind.{Kind}
@@ -24,11 +24,6 @@ least_onto leader k = is_least k.kind && k.target == leader
 abbrev pub holds_back : State → ℕ → Link → Bool
 holds_back s leader k = least_onto leader k && is_open (group_at s k.trigger)
 
--- how many links pass a test
-abbrev pub count : (Link → Bool) → List Link → ℕ
-count test [] = 0
-count test (k ∷ ks) = cond (test k) 1 0 + count test ks
-
 -- the link at a place stands in the span of its trigger
 pub record Covered (links : List Link) (spans : List Span) (place : ℕ) : Type 0 where
   pub from : (span_at spans (get_or links place no_link).trigger).start ≤ place
@@ -44,7 +39,7 @@ pub record Indexed (t : Tables) (s : State) : Type 0 where
   pub leaders : (step : ℕ) → (entry_of t.entries.now step).leader < most_steps
   pub sized : Sized s
   pub covers : (place : ℕ) → place < length t.links.now → Covered t.links.now t.spans place
-  pub counts : (leader : ℕ) → leader < most_steps → waits_at s leader ≡ count (holds_back s leader) t.links.now
+  pub counts : (leader : ℕ) → leader < most_steps → waits_at s leader ≡ count_by (holds_back s leader) t.links.now
 
 -- some least link onto the group of a leader has an open trigger
 abbrev pub WaitsFor : List Link → State → ℕ → Type 0
@@ -64,4 +59,4 @@ pub record SpansSoFar (links : List Link) (spans : List Span) (place : ℕ) : Ty
 -- and the least links among them are counted
 pub record WaitsSoFar (links : List Link) (waits : List ℕ) (place : ℕ) : Type 0 where
   pub sized : length waits ≡ most_steps
-  pub counts : (leader : ℕ) → leader < most_steps → slice_index waits leader ≡ count (least_onto leader) (take place links)
+  pub counts : (leader : ℕ) → leader < most_steps → slice_index waits leader ≡ count_by (least_onto leader) (take place links)

@@ -1,5 +1,5 @@
 -- Which tables a run is opened on, and how it begins.
-use Rattle.std.specs.Prelude.{◌≡◌, ℕ, ◌<◌, ◌≤◌, ◌⊎◌, List, length, take, replicate, None, Option, slice_index, slice_index_or}
+use Rattle.std.specs.Prelude.{◌≡◌, ℕ, ◌<◌, ◌≤◌, ◌⊎◌, List, length, count_by, take, replicate, None, Option, slice_index, slice_index_or}
 use Rattle.bounds.specs.Limits.{horizon, most_steps}
 use Rattle.network.specs.Groups.{group_at as entry_of}
 use Rattle.network.specs.declared.tables.GroupEntry.{GroupEntry}
@@ -9,7 +9,7 @@ use Rattle.pacer.specs.declared.run.Run.{Run}
 use Rattle.pacer.specs.declared.state.State.{State}
 use Rattle.pacer.specs.declared.tables.Tables.{Tables}
 use Rattle.pacer.specs.Fixing.{fixed, no_link, own_links}
-use Rattle.pacer.specs.Index.{count, least_onto}
+use Rattle.pacer.specs.Index.{least_onto}
 use Rattle.pacer.specs.Refusals.{Given, Taken}
 use Rattle.pacer.specs.States.{with_cue}
 
@@ -49,7 +49,7 @@ fresh waits = record { groups = replicate most_steps (Open 0 horizon); cues = re
 -- the state that a run begins with: step 0's group is fixed at 0, its links are applied, and step 0 is cued at 0
 pub record Begins (t : Tables) (s : State) : Type 0 where
   pub waits : List ℕ
-  pub counted : (leader : ℕ) → leader < most_steps → slice_index waits leader ≡ count (least_onto leader) t.links.now
+  pub counted : (leader : ℕ) → leader < most_steps → slice_index waits leader ≡ count_by (least_onto leader) t.links.now
   pub sized : length waits ≡ most_steps
   pub begun : s ≡ with_cue (fixed 0 0 (own_links t 0) (fresh waits)) 0 0
 

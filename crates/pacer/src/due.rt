@@ -17,27 +17,21 @@ impl Run<'_> {
     pub fn list(&self, buffer: &mut [DueEntry]) -> Result<usize, Short>
         ensures { Listed self.now.tables self.now.state buffer.old buffer.new result }
     {
-        self.tables.list_due(&self.state, buffer)
-    }
-}
-
-impl Tables<'_> {
-    // The same, over the parts of a run.
-    fn list_due(&self, state: &State, buffer: &mut [DueEntry]) -> Result<usize, Short>
-        ensures { Listed self.now state.entry.now buffer.old buffer.new result }
-    {
-        if buffer.len() < state.uncued_count(self.steps) {
+        let steps = self.tables.steps;
+        if buffer.len() < self.state.uncued_count(steps) {
             return Err(Short);
         }
         let mut queue = Queue::new(buffer);
-        for step in 0..self.steps {
-            if state.cue(usize::from(step)).is_none() {
-                self.push_due(state, step, &mut queue)?;
+        for step in 0..steps {
+            if self.state.cue(usize::from(step)).is_none() {
+                self.tables.push_due(&self.state, step, &mut queue)?;
             }
         }
         Ok(queue.len())
     }
+}
 
+impl Tables<'_> {
     // Pushes the entry of one step.
     fn push_due(&self, state: &State, step: u8, queue: &mut Queue<'_, DueEntry>) -> Result<(), Full>
         requires { queue.old.len < length queue.old.slots.now }

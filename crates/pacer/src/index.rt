@@ -1,7 +1,8 @@
 // Where a trigger's links stand in the table.
 ghost use Rattle.std.specs.Prelude.{◌≡◌};
-ghost use Rattle.pacer.specs.Fixing.{first_of, span_at, spanned};
+ghost use Rattle.pacer.specs.Fixing.{first_of, own_links, span_at, spanned};
 
+use crate::tables::Tables;
 use network::Link;
 
 /// A part of the link table.
@@ -38,4 +39,13 @@ pub(crate) fn span_of(spans: &[Span], leader: u8) -> Span
     ensures { result ≡ span_at spans.now leader }
 {
     spans.get(usize::from(leader)).copied().unwrap_or_default()
+}
+
+impl<'a> Tables<'a> {
+    /// The links of a leader's span.
+    pub(crate) fn own_links(&self, leader: u8) -> &'a [Link]
+        ensures { result.now ≡ own_links self.now leader }
+    {
+        span_of(&self.spans, leader).of(self.links)
+    }
 }

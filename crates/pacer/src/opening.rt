@@ -32,14 +32,13 @@ impl<'a> Run<'a> {
         if steps == 0 || steps > MOST_STEPS {
             return Err(OpenRefusal::Limits);
         }
-        let n = usize::from(steps);
-        if entries.len() < n || links.len() < count {
-            return Err(OpenRefusal::Tables);
-        }
-        let links = &links[0..count];
+        let entries = entries
+            .get(..usize::from(steps))
+            .ok_or(OpenRefusal::Tables)?;
+        let links = links.get(..count).ok_or(OpenRefusal::Tables)?;
         let tables = Tables {
             steps: steps as u8,
-            entries: &entries[0..n],
+            entries,
             links,
             spans: spans_of(links),
         };
@@ -54,7 +53,6 @@ impl<'a> Run<'a> {
 impl Tables<'_> {
     // Whether the tables fit together, and step 0 leads itself.
     fn fit(&self) -> bool
-        requires { length self.now.entries.now ≡ self.now.steps }
         ensures { MatchBool result (Fit self.now.steps self.now.entries.now self.now.links.now) (Fit self.now.steps self.now.entries.now self.now.links.now → ⊥) }
     {
         self.leads_itself(0) && self.entries_fit() && self.links_fit()
@@ -70,7 +68,6 @@ impl Tables<'_> {
 
     // Whether each step has a leader that leads itself, and an offset within the horizon.
     fn entries_fit(&self) -> bool
-        requires { length self.now.entries.now ≡ self.now.steps }
         ensures { MatchBool result (EntriesFit self.now.steps self.now.entries.now) (EntriesFit self.now.steps self.now.entries.now → ⊥) }
     {
         self.entries.iter().all(|entry| self.leads_itself(entry.leader) && entry.offset <= LAST)

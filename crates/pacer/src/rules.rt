@@ -1,5 +1,6 @@
 // The tests of cue and wait.
 ghost use Rattle.std.specs.Prelude.{◌≡◌, MatchBool};
+ghost use Rattle.network.specs.Groups.{group_at as entry_of};
 ghost use Rattle.pacer.specs.Refusals.{cue_number, refused_with, wait_number};
 ghost use Rattle.pacer.specs.Rules.{CueAnswer, NotYet, Overdue, SomeUncued, TooEarly, WaitAnswer, upper_end, window_of};
 
@@ -7,8 +8,22 @@ use crate::group::{Call, Window};
 use crate::refusal::{CueRefusal, WaitRefusal};
 use crate::state::State;
 use crate::tables::Tables;
+use network::GroupEntry;
+
+// What an entry past the end of the table would be.
+const NO_ENTRY: GroupEntry = GroupEntry {
+    leader: 0,
+    offset: 0,
+};
 
 impl Tables<'_> {
+    /// The entry of a step.
+    pub(crate) fn entry(&self, step: usize) -> GroupEntry
+        ensures { result ≡ entry_of self.now.entries.now step }
+    {
+        self.entries.get(step).copied().unwrap_or(NO_ENTRY)
+    }
+
     /// When a step may start, as the call being handled sees it.
     pub(crate) fn window(&self, state: &State, step: usize, call: Call) -> Window
         ensures { result ≡ window_of self.now state.entry.now step call }

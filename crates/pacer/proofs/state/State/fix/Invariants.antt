@@ -1,7 +1,7 @@
-use Rattle.std.proofs.Common.{◌≡◌, drop}
+use Rattle.std.proofs.Common.{◌≡◌, take}
 use Rattle.pacer.specs.Fixing.{applied}
 use Rattle.pacer.proofs.state.State.fix.Given as goal
 
--- what is left of the links gives what all of them give
+-- what the links so far give
 abbrev pub invariant-loop-link : goal.invariant-loop-link
-invariant-loop-link l = applied l.leader l.time (drop l.link-index l.links) l.self ≡ applied l.leader l.time l.links l.initial.self
+invariant-loop-link l = l.self ≡ applied l.leader l.time (take l.link-index l.links) l.initial.self

@@ -6,26 +6,26 @@ use Rattle.pacer.specs.Due.{Due, DueTable, uncued_count}
 use Rattle.pacer.proofs.Listing.{count_uncued, count_cued, count_front, due_more, due_apart, due_none, due_skipped, table_held}
 use Rattle.pacer.specs.States.{cue_at}
 use Rattle.pacer.specs.declared.state.State.{State}
-use Rattle.pacer.proofs.tables.Tables.list_due.Goals as goal
-use Rattle.pacer.proofs.tables.Tables.list_due.Goals.{then-is_none+in_ok-push_due, else-is_none}
+use Rattle.pacer.proofs.run.Run.list.Goals as goal
+use Rattle.pacer.proofs.run.Run.list.Goals.{then-is_none+in_ok-push_due, else-is_none}
 
 -- whether the step of this turn is cued
 cued_at : (s : State) (k j : ℕ) {o : Option ℕ} → j ≡ k → o ≡ cue_at s j → is_some (cue_at s k) ≡ is_some o
 cued_at s k j e at = ap (λ i. is_some (cue_at s i)) (sym e) ∙ ap is_some (sym at)
 
 pub loop-step-init : goal.loop-step-init
-loop-step-init c = (gained_none due_before 0 _ _ (due_none c.args.self.now c.args.state.now), c.new-queue.ensures.empty)
+loop-step-init c = (gained_none due_before 0 _ _ (due_none c.args.self.now.tables c.args.self.now.state), c.new-queue.ensures.empty)
 
 pub push_due-requires : goal.push_due-requires
 push_due-requires c =
-    let more = count_uncued c.args.state.now c.loop-step.step (cued_at c.args.state.now c.loop-step.step _ (omega arith) c.cue.ensures ∙ c.if-is_none.ensures) in
-    let front = count_front c.args.state.now (c.loop-step.step + 1) c.args.self.now.steps (omega arith) in
+    let more = count_uncued c.args.self.now.state c.loop-step.step (cued_at c.args.self.now.state c.loop-step.step _ (omega arith) c.cue.ensures ∙ c.if-is_none.ensures) in
+    let front = count_front c.args.self.now.state (c.loop-step.step + 1) c.args.self.now.tables.steps (omega arith) in
     omega (arith, more, front, c.loop-step.invariant.1, c.loop-step.invariant.0.size, ap length c.new-queue.ensures.kept, c.if-buffer-uncued_count.false, c.uncued_count.ensures)
 
 pub loop-step-preserved : goal.loop-step-preserved
 loop-step-preserved c =
-    let s = c.args.state.now in
-    let t = c.args.self.now in
+    let s = c.args.self.now.state in
+    let t = c.args.self.now.tables in
     let k = c.loop-step.step in
     elim c.if-is_none.branch [
       | then-is_none+in_ok-push_due w ↦ (
@@ -45,11 +45,11 @@ loop-step-preserved c =
 
 pub returns : goal.returns
 returns c =
-    let s = c.args.state.now in
-    let t = c.args.self.now in
+    let s = c.args.self.now.state in
+    let t = c.args.self.now.tables in
     let queue = c.loop-step.queue in
-    let all : c.loop-step.step ≡ c.args.self.now.steps = omega arith in
-    let number : c.len.result ≡ uncued_count s c.args.self.now.steps = c.len.ensures ∙ c.loop-step.invariant.1 ∙ ap (uncued_count s) all in
+    let all : c.loop-step.step ≡ c.args.self.now.tables.steps = omega arith in
+    let number : c.len.result ≡ uncued_count s c.args.self.now.tables.steps = c.len.ensures ∙ c.loop-step.invariant.1 ∙ ap (uncued_count s) all in
     let listed : DueTable t s (take c.len.result queue.slots.now) =
     subst (λ (k : ℕ). DueTable t s (take k queue.slots.now)) (sym c.len.ensures)
     (table_held t s _ _ c.new-queue.result queue all c.new-queue.ensures.empty c.loop-step.invariant.0) in
