@@ -1,5 +1,5 @@
 // Opening a run: the tests of the tables, the index of the links, and the first state.
-ghost use Rattle.std.specs.Prelude.{◌≡◌, length, IfOk, MatchBool};
+ghost use Rattle.std.specs.Prelude.{◌≡◌, ◌↔◌, length, IfOk, IsTrue};
 ghost use Rattle.pacer.specs.Index.{SpansSoFar, WaitsSoFar};
 ghost use Rattle.pacer.specs.Opening.{Begins, EntriesFit, Fit, LeadsItself, LinksFit, OpenAnswer, Opened};
 ghost use Rattle.pacer.specs.Refusals.{open_number, refused_with};
@@ -53,14 +53,14 @@ impl<'a> Run<'a> {
 impl Tables<'_> {
     // Whether the tables fit together, and step 0 leads itself.
     fn fit(&self) -> bool
-        ensures { MatchBool result (Fit self.now.steps self.now.entries.now self.now.links.now) (Fit self.now.steps self.now.entries.now self.now.links.now → ⊥) }
+        ensures { IsTrue result ↔ Fit self.now.steps self.now.entries.now self.now.links.now }
     {
         self.leads_itself(0) && self.entries_fit() && self.links_fit()
     }
 
     // Whether a step leads itself at offset 0.
     fn leads_itself(&self, step: u8) -> bool
-        ensures { MatchBool result (LeadsItself self.now.steps self.now.entries.now step) (LeadsItself self.now.steps self.now.entries.now step → ⊥) }
+        ensures { IsTrue result ↔ LeadsItself self.now.steps self.now.entries.now step }
     {
         let entry = self.entry(usize::from(step));
         step < self.steps && entry.leader == step && entry.offset == 0
@@ -68,14 +68,14 @@ impl Tables<'_> {
 
     // Whether each step has a leader that leads itself, and an offset within the horizon.
     fn entries_fit(&self) -> bool
-        ensures { MatchBool result (EntriesFit self.now.steps self.now.entries.now) (EntriesFit self.now.steps self.now.entries.now → ⊥) }
+        ensures { IsTrue result ↔ EntriesFit self.now.steps self.now.entries.now }
     {
         self.entries.iter().all(|entry| self.leads_itself(entry.leader) && entry.offset <= LAST)
     }
 
     // Whether each link joins two leaders, with seconds within the horizon.
     fn links_fit(&self) -> bool
-        ensures { MatchBool result (LinksFit self.now.steps self.now.entries.now self.now.links.now) (LinksFit self.now.steps self.now.entries.now self.now.links.now → ⊥) }
+        ensures { IsTrue result ↔ LinksFit self.now.steps self.now.entries.now self.now.links.now }
     {
         self.links.iter().all(|link| {
             self.leads_itself(link.trigger)

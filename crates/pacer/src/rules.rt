@@ -1,5 +1,5 @@
 // The tests of cue and wait.
-ghost use Rattle.std.specs.Prelude.{◌≡◌, MatchBool};
+ghost use Rattle.std.specs.Prelude.{◌≡◌, ◌↔◌, IsTrue};
 ghost use Rattle.network.specs.Groups.{group_at as entry_of};
 ghost use Rattle.pacer.specs.Refusals.{cue_number, refused_with, wait_number};
 ghost use Rattle.pacer.specs.Rules.{CueAnswer, NotYet, Overdue, SomeUncued, TooEarly, WaitAnswer, upper_end, window_of};
@@ -84,14 +84,14 @@ impl Tables<'_> {
 
     // Whether some step is not cued.
     fn some_uncued(&self, state: &State) -> bool
-        ensures { MatchBool result (SomeUncued self.now.steps state.entry.now) (SomeUncued self.now.steps state.entry.now → ⊥) }
+        ensures { IsTrue result ↔ SomeUncued self.now.steps state.entry.now }
     {
         (0..usize::from(self.steps)).any(|step| state.cue(step).is_none())
     }
 
     // Whether the time is after the upper end of some uncued step.
     fn overdue(&self, state: &State, call: Call, time: u32) -> bool
-        ensures { MatchBool result (Overdue self.now state.entry.now time) (Overdue self.now state.entry.now time → ⊥) }
+        ensures { IsTrue result ↔ Overdue self.now state.entry.now time }
     {
         (0..usize::from(self.steps)).any(|step| state.cue(step).is_none()
             && self.upper_end(state, step, call) < u64::from(time))
@@ -99,7 +99,7 @@ impl Tables<'_> {
 
     // Whether the step's group is open, and the step comes after its leader or the group waits for an open one.
     fn not_yet(&self, state: &State, step: usize) -> bool
-        ensures { MatchBool result (NotYet self.now state.entry.now step) (NotYet self.now state.entry.now step → ⊥) }
+        ensures { IsTrue result ↔ NotYet self.now state.entry.now step }
     {
         let entry = self.entry(step);
         state.group(entry.leader).is_open() && (entry.offset > 0 || state.waits(entry.leader) > 0)
@@ -107,7 +107,7 @@ impl Tables<'_> {
 
     // Whether the time is before the step may start.
     fn too_early(&self, state: &State, step: usize, time: u32) -> bool
-        ensures { MatchBool result (TooEarly self.now state.entry.now step time) (TooEarly self.now state.entry.now step time → ⊥) }
+        ensures { IsTrue result ↔ TooEarly self.now state.entry.now step time }
     {
         u64::from(time) < self.window(state, step, Call::Cue).earliest
     }

@@ -11,7 +11,7 @@ front : {X : Type 0} (xs part : List X) (n : ℕ) → part ≡ slice_range xs 0 
 front xs part n e = grind (arith, common_steps)
 
 pub invariant_of-result : goal.invariant_of-result
-invariant_of-result c = record { ready = begins_indexed _ _ (omega (arith, c.if-steps-gt-MOST_STEPS.false)) c.if-not-fit.ensures.entries c.if-not-fit.ensures.links c.spans_of.ensures c.first_state-state.ensures }
+invariant_of-result c = record { ready = begins_indexed _ _ (omega (arith, c.if-steps-gt-MOST_STEPS.false)) (c.if-not-fit.ensures.0 refl).entries (c.if-not-fit.ensures.0 refl).links c.spans_of.ensures c.first_state-state.ensures }
 
 pub returns : goal.returns
 returns c =
@@ -23,7 +23,7 @@ returns c =
     let used : c.in_ok-links.links.now ≡ take m ks = front ks _ m (search rules) in
     let long : n ≤ length es = search rules in
     let more : m ≤ length ks = search rules in
-    let fit : Fit n (take n es) (take m ks) = subst (λ (part : List GroupEntry). Fit n part (take m ks)) first (subst (λ (part : List Link). Fit n c.in_ok-entries.entries.now part) used c.if-not-fit.ensures) in
+    let fit : Fit n (take n es) (take m ks) = subst (λ (part : List GroupEntry). Fit n part (take m ks)) first (subst (λ (part : List Link). Fit n c.in_ok-entries.entries.now part) used (c.if-not-fit.ensures.0 refl)) in
     record {
       answer = inr (
         λ e. elim e [ inl z ↦ c.if-steps-eq0.false z | inr l ↦ omega (arith, l, c.if-steps-gt-MOST_STEPS.false) ],
