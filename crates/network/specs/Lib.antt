@@ -5,6 +5,7 @@ pub mod Words
 pub mod Order
 pub mod Counting
 pub mod Groups
+pub mod Distances
 pub mod Links
 pub mod Filling
 pub mod Refusals

@@ -5,9 +5,9 @@ ghost use Rattle.network.specs.Compiled.{Answered, Decided, DistancesAfter, Grou
 ghost use Rattle.network.specs.Refusals.{early_refusal};
 
 use crate::closure::close;
+use crate::distances::Distances;
 use crate::grid::clear;
-use crate::groups::find_groups;
-use crate::links::find_links;
+use crate::leaders::Leaders;
 use crate::refusal::Refusal;
 use crate::start::gather;
 use crate::tables::{GroupEntry, Link};
@@ -54,8 +54,13 @@ pub fn compile<S: Source>(
         clear(n, distances);
         return Err(Refusal::NoTimetable);
     }
-    let group_count = find_groups(n, distances, groups);
-    let link_count = find_links(n, distances, groups, links)?;
+    let distances = Distances {
+        n,
+        cells: distances,
+    };
+    let group_count = distances.find_groups(groups);
+    let leaders = Leaders { distances, groups };
+    let link_count = leaders.find_links(links)?;
     Ok(Compiled {
         groups: group_count,
         links: link_count,

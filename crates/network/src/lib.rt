@@ -3,9 +3,11 @@
 
 mod closure;
 pub mod compiler;
+mod distances;
 pub mod due;
 mod grid;
 mod groups;
+mod leaders;
 mod links;
 pub mod order;
 pub mod refusal;

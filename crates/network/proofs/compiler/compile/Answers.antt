@@ -7,7 +7,7 @@ use Rattle.bounds.specs.Timetables.{Keeps}
 use Rattle.bounds.specs.Told.{told_spoiled}
 use Rattle.bounds.proofs.Within.{within}
 use Rattle.network.specs.Compiled.{leaves_distances}
-use Rattle.network.specs.Gaps.{Narrowed, Closed, Closes, Hopeless}
+use Rattle.network.specs.Gaps.{Narrowed, Closes, Hopeless}
 use Rattle.network.specs.Grid.{entry_at, unbounded}
 use Rattle.network.specs.Groups.{GroupTable}
 use Rattle.network.specs.Links.{LinkTable}
@@ -75,13 +75,12 @@ returns g c =
     subst (λ (n : ℕ). Closes n (entry_at n xs) (entry_at n ys)) e c.if-not-close.ensures.closed in
     let gathered = says g (goal.at.returns g c).After-gather in
     let unrefused = early g (goal.at.returns g c).After-first_spoiled ∙ ap (option_map told_spoiled) c.in_default.is in
-    let table : Closed c.steps-n.result (entry_at c.steps-n.result ys) = c.if-not-close.ensures.closed.closed in
     record {
       answer = (unrefused, omega (arith, c.find_groups-group_count.ensures.count, e), omega (arith, found.count, ap (λ k. k * (k - 1)) e));
       decided = (unrefused, closed_feasible m some _ gathered _ closes);
       tables = record {
         distances_of = closed_distances m some _ gathered _ closes;
-        groups_of = subst (λ (n : ℕ). GroupTable n (entry_at n ys) gs c.find_groups-group_count.result) e (c.find_groups-group_count.ensures.table table);
+        groups_of = subst (λ (n : ℕ). GroupTable n (entry_at n ys) gs c.find_groups-group_count.result) e c.find_groups-group_count.ensures.table;
         links_of = subst (λ (n : ℕ). LinkTable n (entry_at n ys) gs (take c.in_ok-link_count.link_count c.find_links.new.links)) e found.links;
         links_in_table = omega (arith, found.count, c.if-links-n.false, c.find_links.auto.links);
       };

@@ -1,15 +1,15 @@
 use Rattle.std.proofs.Common.{◌≡◌, ◌+ℤ◌, arith}
 use Rattle.std.proofs.lemmas.Int.{ints}
-use Rattle.network.specs.Grid.{entry_at}
+use Rattle.network.specs.Distances.{distance}
 use Rattle.network.specs.Links.{Dominates}
 use Rattle.network.proofs.Lowering.{when_by}
-use Rattle.network.proofs.links.dominates.Goals as goal
-use Rattle.network.proofs.links.dominates.Goals.{Else-first-second}
+use Rattle.network.proofs.distances.Distances.dominates.Goals as goal
+use Rattle.network.proofs.distances.Distances.dominates.Goals.{Else-first-second}
 
 -- past the first test the gaps add up
-sum : (c : Else-first-second) → let d = entry_at c.args.n c.args.table.now in (d c.args.a c.args.b +ℤ d c.args.b c.args.c) ≡ d c.args.a c.args.c
+sum : (c : Else-first-second) → let d = distance c.args.self.now in (d c.args.a c.args.b +ℤ d c.args.b c.args.c) ≡ d c.args.a c.args.c
 sum c =
-    let near = c.requires.settled in
+    let near = c.args.self.now.closed.settled in
     omega (
       arith,
       ints,
@@ -25,7 +25,7 @@ sum c =
 
 pub returns-then-whole-ge0 : goal.returns-then-whole-ge0
 returns-then-whole-ge0 c =
-    let D = Dominates (entry_at c.args.n c.args.table.now) c.args.a c.args.b c.args.c in
+    let D = Dominates (distance c.args.self.now) c.args.a c.args.b c.args.c in
     when_by _ D (D → ⊥)
     (λ t. record {
       sum = sum (goal.at.returns-then-whole-ge0 c).Else-first-second;
@@ -36,7 +36,7 @@ returns-then-whole-ge0 c =
 
 pub returns-else-whole-ge0 : goal.returns-else-whole-ge0
 returns-else-whole-ge0 c =
-    let D = Dominates (entry_at c.args.n c.args.table.now) c.args.a c.args.b c.args.c in
+    let D = Dominates (distance c.args.self.now) c.args.a c.args.b c.args.c in
     when_by _ D (D → ⊥)
     (λ t. record {
       sum = sum (goal.at.returns-else-whole-ge0 c).Else-first-second;

@@ -1,37 +1,33 @@
 use Rattle.std.proofs.Common.{◌≡◌, ◌+◌, false, ◌⊎◌, sym, inl, inr, arith}
 use Rattle.network.specs.Counting.{links_between}
-use Rattle.network.specs.Grid.{entry_at}
+use Rattle.network.specs.Distances.{gaps, steps}
 use Rattle.network.specs.Groups.{is_leader}
 use Rattle.network.proofs.Counting.{sum_front, sum_more}
 use Rattle.network.specs.Order.{link_before}
 use Rattle.queue.proofs.Growing.{gained_none, gained_more, gained_same}
 use Rattle.network.proofs.Filling.{grown_none, grown_more, grown_same}
 use Rattle.network.proofs.Keeping.{from_more, from_apart, from_skipped}
-use Rattle.network.proofs.links.push_from.Goals as goal
-use Rattle.network.proofs.links.push_from.Goals.{then-target-trigger+then-leads+in_ok-push_between, else-target-trigger, else-target-trigger-via-then-target-trigger+else-leads, else-target-trigger-via-else-target-trigger}
+use Rattle.network.proofs.leaders.Leaders.push_from.Goals as goal
+use Rattle.network.proofs.leaders.Leaders.push_from.Goals.{then-target-trigger+then-leads+in_ok-push_between, else-target-trigger, else-target-trigger-via-then-target-trigger+else-leads, else-target-trigger-via-else-target-trigger}
 
 pub loop-target-init : goal.loop-target-init
 loop-target-init c = record { grown = grown_none _ _; gained = λ leads. gained_none link_before _ _ _ (λ x h. omega (arith, h.2)) }
 
 pub push_between-requires : goal.push_between-requires
 push_between-requires c =
-    let f = links_between (entry_at c.args.n c.args.table.now) c.args.trigger in
+    let f = links_between (gaps c.args.self.now) c.args.trigger in
     record {
-      small = c.requires.small;
-      room = c.requires.room;
-      entries = c.requires.entries;
       trigger = c.requires.inside;
       target = c.loop-target-test.true;
       apart = c.if-target-trigger.true;
-      slots = omega (arith, c.loop-target.invariant.grown.most, c.loop-target.invariant.grown.size, c.requires.slots, sum_more f c.loop-target.target, sum_front f (c.loop-target.target + 1) c.args.n (omega arith));
-      settled = c.requires.settled;
+      slots = omega (arith, c.loop-target.invariant.grown.most, c.loop-target.invariant.grown.size, c.requires.slots, sum_more f c.loop-target.target, sum_front f (c.loop-target.target + 1) (steps c.args.self.now) (omega arith));
     }
 
 pub loop-target-preserved : goal.loop-target-preserved
 loop-target-preserved c =
-    let n = c.args.n in
-    let d = entry_at n c.args.table.now in
-    let gs = c.args.groups.now in
+    let n = steps c.args.self.now in
+    let d = gaps c.args.self.now in
+    let gs = c.args.self.now.groups.now in
     let p = c.args.trigger in
     let k = c.loop-target.target in
     let more = sum_more (links_between d p) k in

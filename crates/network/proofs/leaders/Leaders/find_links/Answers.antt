@@ -1,25 +1,22 @@
 use Rattle.std.proofs.Common.{◌≡◌, ℕ, ◌+◌, length, take, drop, sym, ap, ◌∙◌, subst, arith, rules}
 use Rattle.network.specs.Counting.{links_from}
-use Rattle.network.specs.Grid.{entry_at}
+use Rattle.network.specs.Distances.{gaps, steps}
 use Rattle.network.specs.Links.{LinkTable}
 use Rattle.network.proofs.Counting.{links_all, sum_front, sum_more}
 use Rattle.network.specs.Order.{link_before}
 use Rattle.queue.proofs.Growing.{gained_none, gained_more, gained_same}
 use Rattle.network.proofs.Keeping.{before_more, before_apart, before_skipped, table_held}
-use Rattle.network.proofs.links.find_links.Goals as goal
-use Rattle.network.proofs.links.find_links.Goals.{then-leads+in_ok-push_from, else-leads}
+use Rattle.network.proofs.leaders.Leaders.find_links.Goals as goal
+use Rattle.network.proofs.leaders.Leaders.find_links.Goals.{then-leads+in_ok-push_from, else-leads}
 
 pub loop-trigger-init : goal.loop-trigger-init
 loop-trigger-init c = gained_none link_before _ _ _ (λ x h. omega (arith, h.1))
 
 pub push_from-requires : goal.push_from-requires
 push_from-requires c =
-    let d = entry_at c.args.n c.args.table.now in
-    let f = links_from c.args.n d in
+    let d = gaps c.args.self.now in
+    let f = links_from (steps c.args.self.now) d in
     record {
-      small = c.requires.small;
-      room = c.requires.room;
-      entries = c.requires.entries;
       inside = c.loop-trigger-test.true;
       slots = omega (
         arith,
@@ -27,19 +24,18 @@ push_from-requires c =
         c.loop-trigger.invariant.size,
         c.new-queue.ensures.empty,
         ap length c.new-queue.ensures.kept,
-        c.requires.slots,
-        links_all d c.args.n,
+        c.requires,
+        links_all d (steps c.args.self.now),
         sum_more f c.loop-trigger.trigger,
-        sum_front f (c.loop-trigger.trigger + 1) c.args.n (omega arith),
+        sum_front f (c.loop-trigger.trigger + 1) (steps c.args.self.now) (omega arith),
       );
-      settled = c.requires.settled;
     }
 
 pub loop-trigger-preserved : goal.loop-trigger-preserved
 loop-trigger-preserved c =
-    let n = c.args.n in
-    let d = entry_at n c.args.table.now in
-    let gs = c.args.groups.now in
+    let n = steps c.args.self.now in
+    let d = gaps c.args.self.now in
+    let gs = c.args.self.now.groups.now in
     let k = c.loop-trigger.trigger in
     let more = sum_more (links_from n d) k in
     elim c.if-leads.branch [
@@ -52,9 +48,9 @@ loop-trigger-preserved c =
 
 pub returns : goal.returns
 returns c =
-    let n = c.args.n in
-    let d = entry_at n c.args.table.now in
-    let gs = c.args.groups.now in
+    let n = steps c.args.self.now in
+    let d = gaps c.args.self.now in
+    let gs = c.args.self.now.groups.now in
     let f = links_from n d in
     let queue = c.loop-trigger.queue in
     let held_links : LinkTable n d gs (take c.len.result queue.slots.now) =

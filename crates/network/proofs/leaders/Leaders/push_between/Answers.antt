@@ -1,16 +1,16 @@
 use Rattle.std.proofs.Common.{arith}
-use Rattle.network.specs.Grid.{entry_at}
+use Rattle.network.specs.Distances.{gaps, steps}
 use Rattle.network.specs.Order.{link_before}
 use Rattle.queue.proofs.Growing.{gained_more}
 use Rattle.network.proofs.Filling.{grown_more}
 use Rattle.network.proofs.Keeping.{between_kinds, kinds_apart}
-use Rattle.network.proofs.links.push_between.Goals as goal
+use Rattle.network.proofs.leaders.Leaders.push_between.Goals as goal
 
 pub returns : goal.returns
 returns c =
-    let n = c.args.n in
-    let d = entry_at n c.args.table.now in
-    let gs = c.args.groups.now in
+    let n = steps c.args.self.now in
+    let d = gaps c.args.self.now in
+    let gs = c.args.self.now.groups.now in
     let most = c.kept_link-most.ensures in
     let least = c.kept_link-least.ensures in
     record {
