@@ -19,7 +19,7 @@ pub fn compile_other_tables_during_a_run<S: Source>(
 ) -> (Result<Compiled, Refusal>, Result<Window, NoSuchStep>)
     ensures answer { Decided (S.meaning source.now) (early_refusal (S.meaning source.now) (length distances.old) (length groups.old) (length links.old)) result.0 }
     ensures tables { Tabled (S.meaning source.now) result.0 distances.new groups.new links.new }
-    ensures seen { result.1 ≡ look_answer run.now.steps run.now.entries.now run.now.state 0 }
+    ensures seen { result.1 ≡ look_answer run.now.tables run.now.state 0 }
 {
     let compiled = compile(source, distances, groups, links);
     (compiled, run.look(0))
