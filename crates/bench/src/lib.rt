@@ -19,6 +19,7 @@ const MOST_GROUPS: usize = MOST_STEPS as usize;
 const MOST_LINKS: usize = MOST_GROUPS * (MOST_GROUPS - 1);
 
 /// One end of a bound as it crosses.
+// A flag beside a value: C has no enum with data.
 #[repr(C)]
 #[derive(Clone, Copy)]
 pub struct PlainEnd {
@@ -45,6 +46,7 @@ pub struct PlainGroup {
 }
 
 /// A link as it crosses: a most link, or a least link.
+// A flag for the kind: C has no enum whose values are known.
 #[repr(C)]
 #[derive(Clone, Copy)]
 pub struct PlainLink {
@@ -55,6 +57,7 @@ pub struct PlainLink {
 }
 
 /// What a compilation answered: the number of its refusal, or 0 with the numbers of groups and links.
+// A number for a refusal: C has no `Result`.
 #[repr(C)]
 #[derive(Clone, Copy)]
 pub struct Outcome {
