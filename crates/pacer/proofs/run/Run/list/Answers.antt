@@ -1,9 +1,9 @@
 use Rattle.std.proofs.Common.{◌≡◌, ℕ, ◌+◌, length, take, drop, is_some, Option, sym, ap, ◌∙◌, subst, arith, rules}
 use Rattle.network.specs.Order.{due_before}
 use Rattle.queue.specs.Growing.{Gained}
-use Rattle.queue.proofs.Growing.{gained_none, gained_more, gained_same, gained_as}
+use Rattle.queue.proofs.Growing.{gained_more, gained_same, gained_as}
 use Rattle.pacer.specs.Due.{Due, DueTable, uncued_count}
-use Rattle.pacer.proofs.Listing.{count_uncued, count_cued, count_front, due_more, due_apart, due_none, due_skipped, table_held}
+use Rattle.pacer.proofs.Listing.{count_uncued, count_cued, count_front, due_more, due_apart, due_skipped, table_held}
 use Rattle.pacer.specs.States.{cue_at}
 use Rattle.pacer.specs.declared.state.State.{State}
 use Rattle.pacer.proofs.run.Run.list.Goals as goal
@@ -12,9 +12,6 @@ use Rattle.pacer.proofs.run.Run.list.Goals.{then-is_none+in_ok-push_due, else-is
 -- whether the step of this turn is cued
 cued_at : (s : State) (k j : ℕ) {o : Option ℕ} → j ≡ k → o ≡ cue_at s j → is_some (cue_at s k) ≡ is_some o
 cued_at s k j e at = ap (λ i. is_some (cue_at s i)) (sym e) ∙ ap is_some (sym at)
-
-pub loop-step-init : goal.loop-step-init
-loop-step-init c = (gained_none due_before 0 _ _ (due_none c.args.self.now.tables c.args.self.now.state), c.new-queue.ensures.empty)
 
 pub push_due-requires : goal.push_due-requires
 push_due-requires c =
