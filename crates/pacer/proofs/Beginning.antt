@@ -1,9 +1,9 @@
 -- The index and the first state of a run.
-use Rattle.std.proofs.Common.{◌≡◌, ℕ, zero, suc, ◌+◌, ◌<◌, ◌≤◌, Bool, true, false, cond, ◌&&◌, eqb, ltb, List, [], ◌∷◌, length, get_or, count_by, take, set, replicate, sym, refl, ap, ◌∙◌, inl, inr, arith, length-set, length-take}
+use Rattle.std.proofs.Common.{◌≡◌, ℕ, zero, suc, ◌+◌, ◌<◌, ◌≤◌, Bool, true, false, cond, ◌&&◌, eqb, List, [], ◌∷◌, length, get_or, count_by, take, set, replicate, sym, refl, ap, ◌∙◌, inl, inr, arith, length-set, length-take}
 use lib.ListN.{length-replicate}
 use Rattle.std.proofs.lemmas.List.Sums.{count_by-le-length, sum_by_more}
-use Rattle.std.proofs.lemmas.List.{get_or-set_same, get_or-set_other, get_or_past, set_past}
-use Rattle.std.proofs.lemmas.Bool.{cases_eq, cases_lt, lt-ltb, le-ltb, eq-eqb, ne_eqb, cond-true, cond-false}
+use Rattle.std.proofs.lemmas.List.{get_or-set_same, get_or-set_other, get_or_past}
+use Rattle.std.proofs.lemmas.Bool.{cases_eq, cases_lt, eq-eqb, ne_eqb, cond-true, cond-false}
 use Rattle.bounds.specs.Limits.{horizon, most_steps}
 use Rattle.network.specs.declared.tables.GroupEntry.{GroupEntry}
 use Rattle.network.specs.declared.tables.Kind.TheVariants.{Most, Least}
@@ -12,9 +12,9 @@ use Rattle.pacer.specs.declared.group.Group.TheVariants.{Open}
 use Rattle.pacer.specs.declared.index.Span.{Span}
 use Rattle.pacer.specs.declared.state.State.{State}
 use Rattle.pacer.specs.declared.tables.Tables.{Tables}
-use Rattle.pacer.specs.Fixing.{first_of, no_link, span_at}
+use Rattle.pacer.specs.Fixing.{no_link}
 use Rattle.pacer.specs.Groups.{is_open, no_group}
-use Rattle.pacer.specs.Index.{is_least, least_onto, holds_back, Covered, Indexed, SpansSoFar, WaitsSoFar}
+use Rattle.pacer.specs.Index.{is_least, least_onto, holds_back, Indexed, SpansSoFar, WaitsSoFar}
 use Rattle.pacer.specs.Opening.{Begins, EntriesFit, LinksFit, fresh}
 use Rattle.pacer.specs.States.{group_at}
 use Rattle.pacer.proofs.Indexing.{count-cons, indexed_fixed, indexed_same}
@@ -34,61 +34,6 @@ spans_first links = record {
   ends = λ leader. omega (arith, ap (λ (s : Span). s.end) (replicate_read most_steps no_span leader));
   covers = λ before l. absurd (omega arith);
 }
-
-module _ (links : List Link) (spans : List Span) (place : ℕ) (far : SpansSoFar links spans place) where
-  abbrev trigger : ℕ
-  trigger = (get_or links place no_link).trigger
-
-  abbrev span : Span
-  span = record { start = first_of (span_at spans trigger) place; end = place + 1 }
-
-  there : trigger < most_steps → span_at (set spans trigger span) trigger ≡ span
-  there l = get_or-set_same spans trigger span _ (omega (arith, far.sized))
-
-  elsewhere : (leader : ℕ) → (leader ≡ trigger → ⊥) → span_at (set spans trigger span) leader ≡ span_at spans leader
-  elsewhere leader ne = get_or-set_other spans trigger leader span _ ne
-
-  first_below : first_of (span_at spans trigger) place ≤ place
-  first_below = elim (cases_lt (span_at spans trigger).start (span_at spans trigger).end) [
-    | inl l ↦ omega (arith, cond-true {A = ℕ} (ltb (span_at spans trigger).start (span_at spans trigger).end) (span_at spans trigger).start place (lt-ltb _ _ l), far.ends trigger)
-    | inr l ↦ omega (arith, cond-false {A = ℕ} (ltb (span_at spans trigger).start (span_at spans trigger).end) (span_at spans trigger).start place (le-ltb _ _ l))
-  ]
-
-  still_covered : (before : ℕ) → before < place → (get_or links before no_link).trigger < most_steps → Covered links (set spans trigger span) before
-  still_covered before l small =
-      let old = far.covers before l small in
-      elim (cases_eq (get_or links before no_link).trigger trigger) [
-        | inl e ↦ (
-            let new = ap (span_at (set spans trigger span)) e ∙ there (omega (arith, e)) in
-            let some : (span_at spans trigger).start < (span_at spans trigger).end = omega (arith, old.from, old.to, ap (λ t. (span_at spans t).start) e, ap (λ t. (span_at spans t).end) e) in
-            let start = cond-true {A = ℕ} (ltb (span_at spans trigger).start (span_at spans trigger).end) (span_at spans trigger).start place (lt-ltb _ _ some) in
-            record {
-              from = omega (arith, ap (λ s. s.start) new, start, old.from, ap (λ t. (span_at spans t).start) e);
-              to = omega (arith, ap (λ s. s.end) new);
-            })
-        | inr ne ↦ (
-            let same = elsewhere (get_or links before no_link).trigger ne in
-            record { from = omega (arith, ap (λ s. s.start) same, old.from); to = omega (arith, ap (λ s. s.end) same, old.to) })
-      ]
-
-  pub spans_more : SpansSoFar links (set spans trigger span) (place + 1)
-  spans_more = record {
-    sized = length-set spans trigger span ∙ far.sized;
-    ends = λ leader. elim (cases_eq leader trigger) [
-      | inl e ↦ elim (cases_lt trigger (length spans)) [
-        | inl l ↦ omega (arith, ap (λ t. (span_at (set spans trigger span) t).end) e, ap (λ s. s.end) (there (omega (arith, far.sized))))
-        | inr past ↦ omega (arith, ap (λ ss. (span_at ss leader).end) (set_past spans trigger span past), far.ends leader)
-      ]
-      | inr ne ↦ omega (arith, ap (λ s. s.end) (elsewhere leader ne), far.ends leader)
-    ];
-    covers = λ before l small. elim (cases_eq before place) [
-      | inl e ↦ (
-          let t : (get_or links before no_link).trigger ≡ trigger = ap (λ i. (get_or links i no_link).trigger) e in
-          let new = ap (span_at (set spans trigger span)) t ∙ there (omega (arith, t)) in
-          record { from = omega (arith, ap (λ s. s.start) new, first_below, e); to = omega (arith, ap (λ s. s.end) new, e) })
-      | inr ne ↦ still_covered before (omega arith) small
-    ];
-  }
 
 -- one link more is counted, or not
 count_more : (test : Link → Bool) (ks : List Link) (i : ℕ) → i < length ks → count_by test (take (i + 1) ks) ≡ count_by test (take i ks) + cond (test (get_or ks i no_link)) 1 0

@@ -1,4 +1,4 @@
-pub mod Steps
+pub mod Spans
 pub mod Chains
 pub mod Indexing
 pub mod Listing

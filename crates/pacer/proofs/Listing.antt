@@ -1,5 +1,5 @@
 -- The list of what is due, step by step.
-use Rattle.std.proofs.Common.{◌≡◌, ℕ, zero, suc, ◌+◌, ◌-◌, ◌≤◌, true, false, cond, not, ◌⊎◌, ◌↔◌, is_some, is_none, add-zero, zero-add, sym, ap, ◌∙◌, subst, inl, inr, arith}
+use Rattle.std.proofs.Common.{◌≡◌, ℕ, zero, suc, ◌+◌, ◌-◌, ◌≤◌, true, false, cond, not, ◌⊎◌, ◌↔◌, is_some, is_none, Some, None, Option, refl, add-zero, zero-add, sym, ap, ◌∙◌, subst, inl, inr, arith}
 use mathlib.Core.List.{Memᴰ}
 use Rattle.std.proofs.lemmas.Bool.{cases_eq}
 use Rattle.std.proofs.lemmas.List.{map-id}
@@ -15,7 +15,15 @@ use Rattle.pacer.specs.declared.tables.Tables.{Tables}
 use Rattle.pacer.specs.Due.{Due, DueTable, due_of, uncued_count}
 use Rattle.pacer.specs.Rules.{upper_end}
 use Rattle.pacer.specs.States.{cue_at}
-use Rattle.pacer.proofs.Steps.{none_from_test, some_from_test}
+
+-- what a test of an option says
+none_from_test : {X : Type 0} (o : Option X) → is_some o ≡ false → o ≡ None
+none_from_test None e = refl
+none_from_test (Some x) e = cc
+
+some_from_test : {X : Type 0} (o : Option X) → is_some o ≡ true → o ≡ None → ⊥
+some_from_test None e n = cc
+some_from_test (Some x) e n = cc
 
 -- one step more, which is counted or not
 count_more : (s : State) (k : ℕ) → uncued_count s (k + 1) ≡ uncued_count s k + cond (is_none (cue_at s k)) 1 0

@@ -14,7 +14,7 @@ pub(crate) struct Span {
 
 impl Span {
     /// The links of the span.
-    #[tactic(auto, using(crate::proofs::Steps::spanned_part))]
+    #[tactic(auto, using(crate::proofs::Spans::spanned_part))]
     pub(crate) fn of<'a>(self, links: &'a [Link]) -> &'a [Link]
         ensures { result.now ≡ spanned self links.now }
     {

@@ -1,15 +1,7 @@
--- The turns of the loops over links and steps.
-use Rattle.std.proofs.Common.{◌≡◌, ℕ, ◌+◌, ◌-◌, min, true, false, List, length, take, drop, is_some, Some, None, Option, sym, refl, ap, ◌∙◌, inl, inr, arith, length-take}
+-- The links of a span.
+use Rattle.std.proofs.Common.{◌≡◌, ℕ, ◌+◌, ◌-◌, min, List, length, take, drop, sym, ap, ◌∙◌, inl, inr, arith, length-take}
 use Rattle.std.proofs.lemmas.List.{drop-take, drop_all, take_all}
 use Rattle.std.proofs.lemmas.Bool.{cases_lt}
-
-pub none_from_test : {X : Type 0} (o : Option X) → is_some o ≡ false → o ≡ None
-none_from_test None e = refl
-none_from_test (Some x) e = cc
-
-pub some_from_test : {X : Type 0} (o : Option X) → is_some o ≡ true → o ≡ None → ⊥
-some_from_test None e n = cc
-some_from_test (Some x) e n = cc
 
 -- a part that is cut to the length of the list
 pub spanned_part : {X : Type 0} (a b e s : ℕ) (xs : List X) → e ≡ min b (length xs) → s ≡ min a e → take (e - s) (drop s xs) ≡ drop a (take b xs)
