@@ -1,4 +1,5 @@
 pub mod Places
+pub mod Refilling
 pub mod Lowering
 pub mod Starting
 pub mod Narrowing

@@ -1,18 +1,19 @@
 -- A row that is lowered column by column, and what a stage of the closure keeps.
-use Rattle.std.proofs.Common.{◌≡◌, ℕ, ◌+◌, ◌*◌, ◌<◌, ◌≤◌, Bool, true, false, List, length, set, ℤ, pos, ◌+ℤ◌, neg_ℤ, ◌≤ℤ◌, MatchBool, refl, ap, ◌∙◌, inl, inr, arith}
+use Rattle.std.proofs.Common.{◌≡◌, ℕ, ◌+◌, ◌-◌, ◌*◌, ◌<◌, ◌≤◌, Bool, true, false, List, length, set, ℤ, pos, ◌+ℤ◌, neg_ℤ, ◌≤ℤ◌, MatchBool, refl, ap, ◌∙◌, inl, inr, arith}
 use Rattle.std.specs.Int.{int_min}
-use Rattle.std.proofs.lemmas.Int.{ints, clamps, by_lt_z}
+use Rattle.std.proofs.lemmas.Int.{ints, clamps}
 use Rattle.std.proofs.lemmas.Bool.{cases_eq}
 use Rattle.bounds.specs.Limits.{horizon}
+use Rattle.std.proofs.lemmas.List.{get_or-set_same, get_or-set_other}
+use Rattle.network.proofs.Places.{row_of, row_read, entry_written, entry_unwritten}
+use borrow.Rule.Slice.PartMut.{put_mid}
 use Rattle.network.specs.Grid.{entry_at, Lowered, RowLowered, Rough}
-use Rattle.network.specs.Lines.{Least, Near, Possible}
-use Rattle.network.proofs.Places.{entry_set_same, entry_set_other}
+use Rattle.network.specs.Lines.{Near, Possible, number_at}
 
--- row i is lowered up to column j
-pub record RowSoFar (n : ℕ) (d e : ℕ → ℕ → ℤ) (i : ℕ) (t : ℤ) (v : ℕ → ℤ) (j : ℕ) : Type 0 where
-  pub done : (b : ℕ) → b < j → e i b ≡ int_min (d i b) (t +ℤ v b)
-  pub todo : (b : ℕ) → j ≤ b → b < n → e i b ≡ d i b
-  pub rest : (a b : ℕ) → a < n → b < n → (a ≡ i → ⊥) → e a b ≡ d a b
+-- the numbers of a row below j are lowered
+pub record RowSoFar (xs ys : List ℤ) (t : ℤ) (vs : List ℤ) (j : ℕ) : Type 0 where
+  pub done : (b : ℕ) → b < j → number_at ys b ≡ int_min (number_at xs b) (t +ℤ number_at vs b)
+  pub todo : (b : ℕ) → j ≤ b → number_at ys b ≡ number_at xs b
 
 -- the rows before i are relaxed
 pub record StageSoFar (n : ℕ) (d e : ℕ → ℕ → ℤ) (k i : ℕ) : Type 0 where
@@ -20,16 +21,21 @@ pub record StageSoFar (n : ℕ) (d e : ℕ → ℕ → ℤ) (k i : ℕ) : Type 0
   pub done : (a b : ℕ) → a < i → b < n → e a b ≡ int_min (d a b) (d a k +ℤ d k b)
   pub todo : (a b : ℕ) → i ≤ a → a < n → b < n → e a b ≡ d a b
 
-pub row_more : (n i j : ℕ) (d : ℕ → ℕ → ℤ) (zs : List ℤ) (t : ℤ) (v : ℕ → ℤ) → RowSoFar n d (entry_at n zs) i t v j
-    → (m : ℤ) → i < n → j < n → n * n ≤ length zs → m ≡ int_min (entry_at n zs i j) (t +ℤ v j)
-    → RowSoFar n d (entry_at n (set zs (i * n + j) m)) i t v (j + 1)
-row_more n i j d zs t v far m i-in j-in room is = record {
+pub row_more : (xs ys : List ℤ) (t : ℤ) (vs : List ℤ) (j : ℕ) → RowSoFar xs ys t vs j → (m : ℤ) → j < length ys → m ≡ int_min (number_at ys j) (t +ℤ number_at vs j) → RowSoFar xs (set ys j m) t vs (j + 1)
+row_more xs ys t vs j far m j-in is = record {
   done = λ b l. elim (cases_eq b j) [
-    | inl h ↦ rw h (entry_set_same n i j zs m i-in j-in room ∙ is ∙ (rw (far.todo j (omega arith) j-in)))
-    | inr h ↦ entry_set_other n i j i b zs m j-in (omega arith) (λ z. h z.1) ∙ far.done b (omega arith)
+    | inl h ↦ rw h (get_or-set_same ys j m (pos 0) j-in ∙ is ∙ (rw (far.todo j (omega arith))))
+    | inr h ↦ get_or-set_other ys j b m (pos 0) h ∙ far.done b (omega arith)
   ];
-  todo = λ b l q. entry_set_other n i j i b zs m j-in q (λ z. omega (arith, z.1)) ∙ far.todo b (omega arith) q;
-  rest = λ a b p q ne. entry_set_other n i j a b zs m j-in q (λ z. ne z.0) ∙ far.rest a b p q ne;
+  todo = λ b l. get_or-set_other ys j b m (pos 0) (λ z. omega (arith, z)) ∙ far.todo b (omega arith);
+}
+
+-- once every number of row k is lowered, the table has it so
+pub row_all : (n k : ℕ) (xs ys : List ℤ) (t : ℤ) (vs : List ℤ) (j : ℕ) → k < n → n * n ≤ length xs → length ys ≡ n → n ≤ j → RowSoFar (row_of n k xs) ys t vs j
+    → RowLowered n (entry_at n xs) (entry_at n (put_mid (k * n) (k * n + n - k * n) xs ys)) k t (number_at vs)
+row_all n k xs ys t vs j k_in room long all far = record {
+  here = λ b q. entry_written n k k_in xs room ys long b q ∙ far.done b (omega arith) ∙ ap (λ z. int_min z (t +ℤ number_at vs b)) (row_read n k b xs q);
+  rest = entry_unwritten n k k_in xs room ys long;
 }
 
 -- a table stays rough as a row is lowered
@@ -77,15 +83,9 @@ stage_more n d e k i t v k_in i-in far low near is line e' row = record {
   todo = λ a b l p q. row.rest a b p q (λ z. omega (arith, z)) ∙ far.todo a b (omega arith) p q;
 }
 
--- a row that is the same is as possible
-pub possible_same : (n : ℕ) (v w : ℕ → ℤ) (k : ℕ) → k < n → ((b : ℕ) → b < n → v b ≡ w b) → Possible n v k → Possible n w k
-possible_same n v w k k_in same fine = record {
-  low = λ b q. omega (arith, ints, same b q, fine.low b q);
-  diagonal = omega (arith, ints, same k k_in, fine.diagonal);
-}
-
-pub near_line : (n : ℕ) (v w : ℕ → ℤ) (k : ℕ) → ((b : ℕ) → b < n → v b ≡ w b) → ((b : ℕ) → b < n → w b ≤ℤ pos horizon) → Possible n v k → Near n v
-near_line n v w k same high fine b q = (fine.low b q, omega (arith, ints, same b q, high b q))
+-- a possible row that is rough is near
+pub near_line : (n : ℕ) (v w : ℕ → ℤ) (k : ℕ) → ((b : ℕ) → b < n → v b ≡ w b) → ((b : ℕ) → b < n → w b ≤ℤ pos horizon) → Possible n w k → Near n v
+near_line n v w k same high fine b q = (omega (arith, ints, same b q, fine.low b q), omega (arith, ints, same b q, high b q))
 
 -- what a test says where it holds, and nothing where it does not
 pub when_left : (b : Bool) (P Q : Type 0) → MatchBool b P Q → MatchBool b P (Unit {0})
@@ -101,16 +101,3 @@ when_map false f g h = g h
 pub when_by : (b : Bool) (P Q : Type 0) → (b ≡ true → P) → (b ≡ false → Q) → MatchBool b P Q
 when_by true P Q p q = p refl
 when_by false P Q p q = q refl
-
--- the least of one number more
-pub least_more : (n : ℕ) (v : ℕ → ℤ) (low r : ℤ) → Least n v low → r ≡ int_min (v n) low → Least (n + 1) v r
-least_more n v low r far is = record {
-  under = λ a l. elim (cases_eq a n) [
-    | inl h ↦ rw h (omega (arith, ints, clamps, is))
-    | inr h ↦ omega (arith, ints, clamps, is, far.under a (omega arith))
-  ];
-  reached = by_lt_z low (v n)
-      (λ l. let e : r ≡ low = omega (arith, ints, clamps, is) in
-      elim far.reached [ inl h ↦ inl (e ∙ h) | inr h ↦ inr (h.0, omega (arith, h.1), e ∙ h.2) ])
-      (λ l. inr (n, omega arith, omega (arith, ints, clamps, is)));
-}

@@ -1,7 +1,10 @@
 -- The place of row i and column j in a square table, and a write there.
-use Rattle.std.proofs.Common.{◌≡◌, ℕ, zero, suc, ◌+◌, ◌*◌, ◌/◌, ◌%◌, ◌<◌, ◌≤◌, ◌≢◌, List, [], ◌∷◌, ◌++◌, length, drop, set, replicate, ℤ, pos, sym, refl, ap, ◌∙◌, add-one, arith}
+use Rattle.std.proofs.Common.{◌≡◌, ℕ, ◌+◌, ◌-◌, ◌*◌, ◌/◌, ◌%◌, ◌<◌, ◌≤◌, ◌≢◌, List, length, get_or, take, drop, set, ℤ, pos, sym, ap, ◌∙◌, inl, inr, length-drop, arith}
 use Rattle.std.specs.Int.{int_min}
-use Rattle.std.proofs.lemmas.List.{get_or-set_same, get_or-set_other, drop-set-lt}
+use Rattle.std.proofs.lemmas.Bool.{cases_lt}
+use Rattle.std.proofs.lemmas.List.{get_or-set_same, get_or-set_other, drop-set-lt, get_or-take, get_or-drop, length-take-le}
+use Rattle.std.proofs.lemmas.Slice.{between-put_mid, take-put_mid_below, drop-put_mid}
+use borrow.Rule.Slice.PartMut.{put_mid}
 use Rattle.std.proofs.lemmas.Nat.{mul-add-lt, div-mul-add, mod-mul-add}
 use Rattle.network.specs.Grid.{entry_at, Lowered}
 
@@ -33,12 +36,50 @@ lowered_set n i j xs v m p q room is = record {
   rest = λ a b r s ne. entry_set_other n i j a b xs m q s ne;
 }
 
--- one entry more of a list that is filled from the front
-pub filled_more : {X : Type 0} (k : ℕ) (v : X) (xs : List X) → k < length xs → set (replicate k v ++ drop k xs) k v ≡ replicate (k + 1) v ++ drop (k + 1) xs
-filled_more {X = X} k v xs l = simp add-one (go k xs l)
-  where
-    go : (k : ℕ) (xs : List X) → k < length xs → set (replicate k v ++ drop k xs) k v ≡ replicate (suc k) v ++ drop (suc k) xs
-    go zero [] h = absurd (omega arith)
-    go zero (x ∷ xs) h = refl
-    go (suc k) [] h = absurd (omega arith)
-    go (suc k) (x ∷ xs) h = ap (λ ys. v ∷ ys) (go k xs (omega arith))
+-- row k, as a part of the list
+abbrev pub row_of : ℕ → ℕ → List ℤ → List ℤ
+row_of n k xs = take (k * n + n - k * n) (drop (k * n) xs)
+
+pub row_read : (n k b : ℕ) (xs : List ℤ) → b < n → get_or (row_of n k xs) b (pos 0) ≡ entry_at n xs k b
+unfolding entry_at
+row_read n k b xs q = get_or-take (k * n + n - k * n) (drop (k * n) xs) b (pos 0) (omega arith) ∙ get_or-drop (k * n) xs b (pos 0)
+
+module _ (n k : ℕ) (k_in : k < n) (xs : List ℤ) where
+  row_end : k * n + n ≤ n * n
+  row_end = omega (arith, mul-add-lt k n (n - 1) n k_in (omega arith))
+
+  module _ (room : n * n ≤ length xs) where
+    pub row_length : length (row_of n k xs) ≡ n
+    row_length = length-take-le (k * n + n - k * n) (drop (k * n) xs) (omega (arith, row_end, length-drop (k * n) xs)) ∙ (omega arith)
+
+    -- row k is written anew
+    module _ (ys : List ℤ) (long : length ys ≡ n) where
+      abbrev written : List ℤ
+      written = put_mid (k * n) (k * n + n - k * n) xs ys
+
+      start_in : k * n ≤ length xs
+      start_in = omega (arith, row_end)
+
+      pub entry_written : (b : ℕ) → b < n → entry_at n written k b ≡ get_or ys b (pos 0)
+      entry_written b q = sym (row_read n k b written q) ∙ ap (λ r. get_or r b (pos 0)) (between-put_mid (k * n) (k * n + n - k * n) xs ys (k * n + n) start_in (omega (arith, long)))
+
+      pub entry_unwritten : (a b : ℕ) → a < n → b < n → (a ≡ k → ⊥) → entry_at n written a b ≡ entry_at n xs a b
+      unfolding entry_at
+      entry_unwritten a b p q ne = elim (cases_lt a k) [
+        | inl l ↦ (
+            let before : a * n + b < k * n = omega (arith, mul-add-lt a n b k l q) in
+            sym (get_or-take (k * n) written (a * n + b) (pos 0) before)
+            ∙ ap (λ zs. get_or zs (a * n + b) (pos 0)) (take-put_mid_below (k * n) (k * n + n - k * n) xs ys (k * n) (omega arith) start_in)
+            ∙ get_or-take (k * n) xs (a * n + b) (pos 0) before)
+        | inr l ↦ (
+            let above : k < a = omega (arith, ne) in
+            let after : k * n + n ≤ a * n + b = omega (arith, mul-add-lt k n (n - 1) a above (omega arith)) in
+            let is : k * n + n + (a * n + b - (k * n + n)) ≡ a * n + b = omega arith in
+            let at : (zs : List ℤ) → get_or (drop (k * n + n) zs) (a * n + b - (k * n + n)) (pos 0) ≡ get_or zs (a * n + b) (pos 0) = λ zs. get_or-drop (k * n + n) zs (a * n + b - (k * n + n)) (pos 0) ∙ ap (λ p. get_or zs p (pos 0)) is in
+            sym (at written)
+            ∙ ap (λ zs. get_or zs (a * n + b - (k * n + n)) (pos 0)) (drop-put_mid (k * n) (k * n + n - k * n) xs ys (k * n + n) (omega arith) start_in (omega (arith, long)))
+            ∙ at xs)
+      ]
+
+      pub behind_written : drop (n * n) written ≡ drop (n * n) xs
+      behind_written = drop-put_mid (k * n) (k * n + n - k * n) xs ys (n * n) (omega (arith, row_end)) start_in (omega (arith, long))

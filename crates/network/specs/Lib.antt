@@ -1,4 +1,5 @@
 pub mod Grid
+pub mod Filled
 pub mod Lines
 pub mod Gaps
 pub mod Words

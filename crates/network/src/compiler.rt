@@ -4,12 +4,10 @@ ghost use Rattle.bounds.specs.Timetables.{OneDistance};
 ghost use Rattle.network.specs.Compiled.{Answered, Decided, DistancesAfter, GroupsAfter, LinksAfter, Tabled};
 ghost use Rattle.network.specs.Refusals.{early_refusal};
 
-use crate::closure::close;
 use crate::distances::Distances;
-use crate::grid::clear;
+use crate::grid::Grid;
 use crate::leaders::Leaders;
 use crate::refusal::Refusal;
-use crate::start::gather;
 use crate::tables::{GroupEntry, Link};
 use bounds::{Source, beyond_limits, first_spoiled};
 
@@ -45,19 +43,18 @@ pub fn compile<S: Source>(
     if distances.len() < n * n || groups.len() < n || links.len() < n * (n - 1) {
         return Err(Refusal::Tables);
     }
+    let mut grid = Grid::new(n, distances);
     if let Some(item) = first_spoiled(source) {
-        clear(n, distances);
+        grid.clear();
         return Err(Refusal::Spoiled(item));
     }
-    gather(source, n, distances);
-    if !close(n, distances) {
-        clear(n, distances);
+    grid.gather(source);
+    if !grid.close() {
+        grid.clear();
         return Err(Refusal::NoTimetable);
     }
-    let distances = Distances {
-        n,
-        cells: distances,
-    };
+    let Grid { n, cells } = grid;
+    let distances = Distances { n, cells };
     let group_count = distances.find_groups(groups);
     let leaders = Leaders { distances, groups };
     let link_count = leaders.find_links(links)?;
