@@ -1,12 +1,12 @@
 -- The search for the leader of a group, and the table of groups as it is filled.
-use Rattle.std.proofs.Common.{◌≡◌, ℕ, ◌+◌, ◌<◌, ◌≤◌, cond, eqb, ◌↔◌, List, length, set, ℤ, pos, ◌≤ℤ◌, ◌<ℤ◌, sym, refl, ap, ◌∙◌, inl, inr, arith}
-use Rattle.std.proofs.lemmas.List.{get_or-set_same, get_or-set_other}
+use Rattle.std.proofs.Common.{◌≡◌, ℕ, ◌+◌, ◌<◌, ◌≤◌, cond, eqb, ◌↔◌, List, ◌++◌, length, set, ℤ, pos, ◌≤ℤ◌, ◌<ℤ◌, sym, refl, ap, ◌∙◌, inl, inr, arith}
+use Rattle.std.proofs.lemmas.List.{get_or-set_same, get_or-set_other, get_or_append_left}
 use Rattle.std.proofs.lemmas.Int.{ints}
 use Rattle.std.proofs.lemmas.Bool.{cases_eq}
 use Rattle.network.specs.declared.tables.GroupEntry.{GroupEntry}
 use Rattle.network.specs.Gaps.{Closed}
-use Rattle.network.specs.Groups.{Rigid, Leads, group_at, is_leader, Grouped, leaders, GroupTable}
-use Rattle.network.proofs.Counting.{sum_more, sum_same, sum_tests}
+use Rattle.network.specs.Groups.{Rigid, Leads, group_at, Grouped, leaders, GroupTable}
+use Rattle.network.proofs.Counting.{sum_more, sum_same}
 
 -- of the members from k on, the leader is the lowest-numbered of the earliest, unless none is as early as the step itself
 pub record LeaderSoFar (n : ℕ) (d : ℕ → ℕ → ℤ) (step leader k : ℕ) : Type 0 where
@@ -98,9 +98,6 @@ pub record GroupsSoFar (n : ℕ) (d : ℕ → ℕ → ℤ) (gs : List GroupEntry
 pub groups_first : (n : ℕ) (d : ℕ → ℕ → ℤ) (gs : List GroupEntry) → GroupsSoFar n d gs 0 0
 groups_first n d gs = record { each = λ i l. absurd (omega arith); counted = refl }
 
-pub groups_few : (n : ℕ) (d : ℕ → ℕ → ℤ) (gs : List GroupEntry) (count k : ℕ) → GroupsSoFar n d gs count k → count ≤ k
-groups_few n d gs count k far = omega (arith, far.counted, sum_tests (is_leader gs) k)
-
 pub groups_all : (n : ℕ) (d : ℕ → ℕ → ℤ) (gs : List GroupEntry) (count k : ℕ) → Closed n d → k ≡ n → GroupsSoFar n d gs count k → GroupTable n d gs count
 groups_all n d gs count k closed all far = record {
   each = λ i l. far.each i (omega arith);
@@ -132,3 +129,12 @@ module _ (n : ℕ) (d : ℕ → ℕ → ℤ) (gs : List GroupEntry) (count k : �
         ∙ ap (λ g. leaders (set gs k e) k + cond (eqb g.leader k) 1 0) (sym here)
         ∙ sym (sum_more _ k);
   }
+
+-- the entries of a list that begins with such a front
+pub groups_front : (n : ℕ) (d : ℕ → ℕ → ℤ) (front rest : List GroupEntry) (count k : ℕ) → k ≤ length front → GroupsSoFar n d front count k → GroupsSoFar n d (front ++ rest) count k
+groups_front n d front rest count k fits far =
+    let same : (i : ℕ) → i < k → group_at (front ++ rest) i ≡ group_at front i = λ i l. get_or_append_left front rest _ i (omega arith) in
+    record {
+      each = λ i l. grouped_same n d front (front ++ rest) i (same i l) (far.each i l);
+      counted = far.counted ∙ sum_same _ _ k (λ i l. ap (λ g. cond (eqb g.leader i) 1 0) (sym (same i l)));
+    }

@@ -1,3 +1,4 @@
+pub mod Testing
 pub mod Places
 pub mod Refilling
 pub mod Lowering

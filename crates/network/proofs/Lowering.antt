@@ -1,5 +1,5 @@
 -- A row that is lowered column by column, and what a stage of the closure keeps.
-use Rattle.std.proofs.Common.{◌≡◌, ℕ, ◌+◌, ◌-◌, ◌*◌, ◌<◌, ◌≤◌, Bool, true, false, List, length, set, ℤ, pos, ◌+ℤ◌, neg_ℤ, ◌≤ℤ◌, MatchBool, refl, ap, ◌∙◌, inl, inr, arith}
+use Rattle.std.proofs.Common.{◌≡◌, ℕ, ◌+◌, ◌-◌, ◌*◌, ◌<◌, ◌≤◌, List, length, set, ℤ, pos, ◌+ℤ◌, neg_ℤ, ◌≤ℤ◌, ap, ◌∙◌, inl, inr, arith}
 use Rattle.std.specs.Int.{int_min}
 use Rattle.std.proofs.lemmas.Int.{ints, clamps}
 use Rattle.std.proofs.lemmas.Bool.{cases_eq}
@@ -7,7 +7,7 @@ use Rattle.bounds.specs.Limits.{horizon}
 use Rattle.std.proofs.lemmas.List.{get_or-set_same, get_or-set_other}
 use Rattle.network.proofs.Places.{row_of, row_read, entry_written, entry_unwritten}
 use borrow.Rule.Slice.PartMut.{put_mid}
-use Rattle.network.specs.Grid.{entry_at, Lowered, RowLowered, Rough}
+use Rattle.network.specs.Grid.{entry_at, RowLowered, Rough}
 use Rattle.network.specs.Lines.{Near, Possible, number_at}
 
 -- the numbers of a row below j are lowered
@@ -55,22 +55,6 @@ rough_row n d e i t v i-in low near row rough = record {
   ];
 }
 
--- and as one entry is
-pub rough_lowered : (n : ℕ) (d e : ℕ → ℕ → ℤ) (i j : ℕ) (v : ℤ) → i < n → j < n → neg_ℤ (pos (2 * horizon)) ≤ℤ v → Lowered n d e i j v → Rough n d → Rough n e
-rough_lowered n d e i j v i-in j-in low one rough = record {
-  low = λ a b p q. by_place a b p q (λ h k. rw (h, k) (omega (arith, ints, clamps, one.here, rough.low i j i-in j-in))) (λ s. omega (arith, ints, s, rough.low a b p q));
-  high = λ a b p q. by_place a b p q (λ h k. rw (h, k) (omega (arith, ints, clamps, one.here, rough.high i j i-in j-in))) (λ s. omega (arith, ints, s, rough.high a b p q));
-  diagonal = λ a p. by_place a a p p
-      (λ h k. omega (arith, ints, clamps, one.here, rough.diagonal a p, ap (λ x. d x j) h ∙ refl, ap (d a) k, ap (λ x. e x j) h, ap (e a) k))
-      (λ s. omega (arith, ints, s, rough.diagonal a p));
-}
-  where
-    by_place : {P : Type 0} (a b : ℕ) → a < n → b < n → (a ≡ i → b ≡ j → P) → (e a b ≡ d a b → P) → P
-    by_place a b p q same other = elim (cases_eq a i) [
-      | inl h ↦ elim (cases_eq b j) [ inl k ↦ same h k | inr k ↦ other (one.rest a b p q (λ z. k z.1)) ]
-      | inr h ↦ other (one.rest a b p q (λ z. h z.0))
-    ]
-
 -- the loop over the rows of a stage
 pub stage_more : (n : ℕ) (d e : ℕ → ℕ → ℤ) (k i : ℕ) (t : ℤ) (v : ℕ → ℤ) → k < n → i < n → StageSoFar n d e k i → neg_ℤ (pos horizon) ≤ℤ t → Near n v
     → t ≡ e i k → ((b : ℕ) → b < n → v b ≡ d k b) → (e' : ℕ → ℕ → ℤ) → RowLowered n e e' i t v → StageSoFar n d e' k (i + 1)
@@ -86,18 +70,3 @@ stage_more n d e k i t v k_in i-in far low near is line e' row = record {
 -- a possible row that is rough is near
 pub near_line : (n : ℕ) (v w : ℕ → ℤ) (k : ℕ) → ((b : ℕ) → b < n → v b ≡ w b) → ((b : ℕ) → b < n → w b ≤ℤ pos horizon) → Possible n w k → Near n v
 near_line n v w k same high fine b q = (omega (arith, ints, same b q, fine.low b q), omega (arith, ints, same b q, high b q))
-
--- what a test says where it holds, and nothing where it does not
-pub when_left : (b : Bool) (P Q : Type 0) → MatchBool b P Q → MatchBool b P (Unit {0})
-when_left true P Q p = p
-when_left false P Q q = tt
-
--- what a test says, from what another says
-pub when_map : (b : Bool) {P Q P' Q' : Type 0} → (P → P') → (Q → Q') → MatchBool b P Q → MatchBool b P' Q'
-when_map true f g h = f h
-when_map false f g h = g h
-
--- what a test says, from its two cases
-pub when_by : (b : Bool) (P Q : Type 0) → (b ≡ true → P) → (b ≡ false → Q) → MatchBool b P Q
-when_by true P Q p q = p refl
-when_by false P Q p q = q refl

@@ -6,11 +6,6 @@ use Rattle.bounds.specs.Limits.{horizon}
 abbrev pub number_at : List ℤ → ℕ → ℤ
 number_at xs b = slice_index_or xs b (pos 0)
 
--- r is the least of the first n numbers and zero
-pub record Least (n : ℕ) (v : ℕ → ℤ) (r : ℤ) : Type 0 where
-  pub under : (b : ℕ) → b < n → r ≤ℤ v b
-  pub reached : (r ≡ pos 0) ⊎ ((b : ℕ) × (b < n) × (r ≡ v b))
-
 -- the numbers can be row k of the distances: none below −1,000,000, and the diagonal's not below 0
 pub record Possible (n : ℕ) (v : ℕ → ℤ) (k : ℕ) : Type 0 where
   pub low : (b : ℕ) → b < n → neg_ℤ (pos horizon) ≤ℤ v b

@@ -70,12 +70,7 @@ impl Grid<'_> {
         requires { Rough self.now.n (entries self.now) }
         ensures { MatchBool result (Settled self.now.n (entries self.now)) (Refuted self.now.n (entries self.now)) }
     {
-        for k in 0..self.n {
-            if !self.is_possible(k) {
-                return false;
-            }
-        }
-        true
+        (0..self.n).all(|k| self.is_possible(k))
     }
 
     // Whether row k can be row k of the distances.

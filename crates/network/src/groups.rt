@@ -15,9 +15,10 @@ impl Distances<'_> {
         ensures behind { drop self.now.n groups.new ≡ drop self.now.n groups.old }
     {
         let mut count = 0;
-        for step in 0..self.n {
+        let front = &mut groups[..self.n];
+        for (step, entry) in front.iter_mut().enumerate() {
             let leader = self.leader_of(step);
-            groups[step] = GroupEntry {
+            *entry = GroupEntry {
                 leader: leader as u8,
                 offset: self.at(leader, step) as u32,
             };

@@ -2,7 +2,7 @@ use Rattle.std.proofs.Common.{◌≡◌, ◌+ℤ◌, arith}
 use Rattle.std.proofs.lemmas.Int.{ints}
 use Rattle.network.specs.Distances.{distance}
 use Rattle.network.specs.Links.{Dominates}
-use Rattle.network.proofs.Lowering.{when_by}
+use Rattle.network.proofs.Testing.{when_by}
 use Rattle.network.proofs.distances.Distances.dominates.Goals as goal
 use Rattle.network.proofs.distances.Distances.dominates.Goals.{Else-first-second}
 

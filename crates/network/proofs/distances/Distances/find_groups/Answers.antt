@@ -1,20 +1,27 @@
-use Rattle.std.proofs.Common.{◌≡◌, ℕ, ◌+◌, cond, eqb, refl, ◌∙◌, arith}
-use Rattle.std.proofs.lemmas.List.{drop-set-lt}
+use Rattle.std.proofs.Common.{◌≡◌, ℕ, ◌+◌, length, take, drop, cond, eqb, refl, subst, arith}
+use Rattle.std.proofs.lemmas.List.{length-take-le}
+use Rattle.std.proofs.lemmas.Slice.{drop-append-drop}
 use Rattle.std.proofs.lemmas.Int.{ints}
 use Rattle.std.proofs.lemmas.Bool.{eq-eqb, ne_eqb, cond-true, cond-false}
-use Rattle.network.proofs.Grouping.{groups_first, groups_more, groups_all, offset_above}
+use Rattle.network.specs.Distances.{distance}
+use Rattle.network.proofs.Grouping.{GroupsSoFar, groups_first, groups_more, groups_front, groups_all, offset_above}
 use Rattle.network.proofs.distances.Distances.find_groups.Goals as goal
-use Rattle.network.proofs.distances.Distances.find_groups.Goals.{then-leader-step, else-leader-step}
+use Rattle.network.proofs.distances.Distances.find_groups.Goals.{Start, then-leader-step, else-leader-step}
+
+-- as many entries are filled as there are steps
+long : (c : Start) → length (take c.args.self.now.n c.args.groups.now) ≡ c.args.self.now.n
+long c = length-take-le c.args.self.now.n c.args.groups.now c.requires
 
 pub loop-step-init : goal.loop-step-init
-loop-step-init c = record { few = omega arith; groups = groups_first _ _ _; behind = refl }
+loop-step-init c = record { few = omega arith; groups = groups_first _ _ _ }
 
 pub loop-step-preserved : goal.loop-step-preserved
 loop-step-preserved c =
+    let size = long (goal.at.loop-step-preserved c).Start in
     let leader = c.leader_of-leader.result in
     let step = c.loop-step.step in
     let leads = c.leader_of-leader.ensures in
-    let before = offset_above _ _ step leader c.args.self.now.closed c.loop-step-test.true leads in
+    let before = offset_above _ _ step leader c.args.self.now.closed (omega (arith, size)) leads in
     let count : c.if-leader-step.count ≡ c.loop-step.count + cond (eqb leader step) 1 0 =
     elim c.if-leader-step.branch [
       | then-leader-step w ↦ omega (arith, w.count-is, cond-true {A = ℕ} (eqb leader step) 1 0 (eq-eqb leader step w.if-leader-step.true))
@@ -23,12 +30,18 @@ loop-step-preserved c =
     record {
       few = elim c.if-leader-step.branch [ then-leader-step w ↦ omega (arith, w.count-is) | else-leader-step w ↦ omega (arith, w.count-is) ];
       groups = groups_more _ _ _ _ _ (omega arith) _ _ c.loop-step.invariant.groups leads (omega (arith, ints, before, c.at.ensures)) count;
-      behind = drop-set-lt _ _ _ _ c.loop-step-test.true ∙ c.loop-step.invariant.behind;
     }
 
 pub returns : goal.returns
-returns c = record {
-  table = groups_all _ _ _ _ _ c.args.self.now.closed (omega arith) c.loop-step.invariant.groups;
-  count = omega arith;
-  behind = c.loop-step.invariant.behind;
-}
+returns c =
+    let n = c.args.self.now.n in
+    let size = long (goal.at.returns c).Start in
+    let front = c.loop-step.front in
+    let filled : length front ≡ n = omega (arith, size) in
+    let last : c.loop-step.step ≡ n = omega (arith, size) in
+    let all = subst (λ (k : ℕ). GroupsSoFar n (distance c.args.self.now) front c.loop-step.count k) last c.loop-step.invariant.groups in
+    record {
+      table = groups_all _ _ _ _ n c.args.self.now.closed refl (groups_front _ _ front (drop n c.args.groups.now) _ n (omega (arith, filled)) all);
+      count = omega (arith, size);
+      behind = drop-append-drop n c.args.groups.now front n (omega arith) filled;
+    }

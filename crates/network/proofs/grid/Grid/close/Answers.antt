@@ -1,5 +1,5 @@
 use Rattle.std.proofs.Common.{◌≡◌, ℕ, pos, MatchBool, sym, subst, arith}
-use Rattle.network.proofs.Lowering.{when_map}
+use Rattle.network.proofs.Testing.{when_map}
 use Rattle.network.proofs.Narrowing.{closes_first, closes_more, closes_all, refuted_hopeless}
 use Rattle.network.proofs.Refilling.{refilled_none, refilled_onward}
 use Rattle.network.specs.Grid.{Relaxed, Rough, Settled, entry_at}

@@ -7,7 +7,7 @@ use borrow.Author.Tests.{tests}
 use Rattle.bounds.specs.Limits.{horizon}
 use Rattle.network.specs.Filled.{entries}
 use Rattle.network.specs.Lines.{Possible, Impossible}
-use Rattle.network.proofs.Lowering.{when_by}
+use Rattle.network.proofs.Testing.{when_by}
 use Rattle.network.proofs.Places.{row_of, row_length, row_read}
 use Rattle.network.proofs.grid.Grid.is_possible.Goals as goal
 use Rattle.network.proofs.grid.Grid.is_possible.Goals.{After-all}
