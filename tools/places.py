@@ -1,5 +1,5 @@
 #!/usr/bin/env python3
-"""Lists the places in src/ that an older form of the language may have left, point by point.
+"""Lists the places in src/, and of point 8 in proofs/, that an older form of the language may have left, point by point.
 
 Usage: tools/places.py [--list] [POINT ..]
 
@@ -19,7 +19,8 @@ LINES = {
         ("an enum of two variants that each hold a value", None),
         ("a flag beside a value", r"^\s*(pub(\(crate\))? )?\w+: bool,$"),
         ("a refusal as an Option", r"-> Option<\w*Refusal>"),
-        ("a number for a refusal or a line", r"Result<[^>]*(<[^>]*>)?[^>]*, (u8|u16|u32|usize)>|^\s*(pub )?refusal: u8,$|-> bool$"),
+        ("a number for a refusal or a line, or a bool for a failure",
+         r"Result<[^>]*(<[^>]*>)?[^>]*, (u8|u16|u32|usize)>|^\s*(pub )?refusal: u8,$|fn (close|relax)\(.*-> bool"),
         ("a match or an else that only makes another Option or Result",
          r"None => None|Err\(\w*\) => Err\(|Ok\(\w*\) => Ok\(|Some\(_\) => None|None => Err\(|Some\(\w+\) => (Some|Ok)\(|let (Ok|Some)\(.*\) = .* else \{|if let Some\(refusal\)"),
     ],
@@ -36,7 +37,8 @@ LINES = {
         ("a search or a count by a loop of its own", r"^\s*(return (true|false|place);|count \+= 1;|taken = )$|^\s*(return (true|false|place);|count \+= 1;|taken = .*)$"),
     ],
     4: [
-        ("an order, a conversion or a text written by hand", r"fn (comes_before|of|word|tell_\w+|negated|has_end)\b"),
+        ("an order, a conversion or a text written by hand",
+         r"return self\.\w+ < other\.\w+|self\.\w+ < other\.\w+,?$|trait Crossed|impl Crossed|fn (word|tell_\w+|negated)\b"),
         ("a default that stands as a constant", r"^\s*(pub(\(crate\))? )?const (NO_\w+|ABSENT|NONE)\b"),
         ("a match that turns one refusal into another", r"Err\(refusal\) => Err\(\w+::\w+\(refusal\)\)"),
     ],
@@ -52,6 +54,11 @@ LINES = {
     7: [
         ("an enum that only chooses which test or step to run", r"enum (Stop|Call)\b"),
         ("a table of functions, or a boxed one", r"fn\(|dyn "),
+    ],
+    8: [
+        ("a lemma or definition that nothing cites", None),
+        ("a file of answers or invariants", None),
+        ("a line of proofs", None),
     ],
 }
 
@@ -104,7 +111,7 @@ def same_names():
         if crate == "trials":
             continue
         for number, name, params, clauses in functions(lines):
-            if name in ("number", "place"):
+            if name in ("number", "place") and "u8" in lines[number - 1] + lines[number] or name == "place" and "Option" in lines[number - 1]:
                 homes[name].append(f"{path.relative_to(ROOT)}:{number}: fn {name}")
     for name in sorted(homes):
         if len(homes[name]) > 1:
@@ -153,7 +160,38 @@ def common_parameters():
                 yield f"{crate}: ({', '.join(names)}) at {count} functions"
 
 
+def proofs():
+    for path in sorted(ROOT.glob("*/proofs/**/*.antt")):
+        yield path, path.read_text()
+
+
+def uncited():
+    texts = [path.read_text() for path in sorted(ROOT.glob("*/*/**/*.antt")) if path.parts[-3] != "out"]
+    texts += ["\n".join(lines) for _, _, lines in files()]
+    for path, text in proofs():
+        if path.parent.name == "proofs":
+            for name in re.findall(r"^ *(?:pub |abbrev |abbrev pub )?([\w'-]+) :(?: |$)", text, re.M):
+                word = re.compile(r"(?<![\w'-])" + re.escape(name) + r"(?![\w'-])")
+                own = re.compile(r"^ *(?:pub |abbrev |abbrev pub )?" + re.escape(name) + r"(?![\w'-])", re.M)
+                if sum(len(word.findall(t)) for t in texts) == len(own.findall(text)):
+                    yield f"{path.relative_to(ROOT)}: {name}"
+
+
+def answers():
+    for path, text in proofs():
+        if path.parent.name != "proofs":
+            yield f"{path.relative_to(ROOT)}"
+
+
+def proof_lines():
+    for path, text in proofs():
+        yield from (f"{path.relative_to(ROOT)}:{n}" for n, _ in enumerate(text.splitlines(), 1))
+
+
 OWN = {
+    "a lemma or definition that nothing cites": uncited,
+    "a file of answers or invariants": answers,
+    "a line of proofs": proof_lines,
     "an enum of two variants that each hold a value": two_variants,
     "a function of the same name in several types": same_names,
     "a constant that stands in several files": same_constants,

@@ -1,4 +1,4 @@
-use Rattle.std.proofs.Common.{ℕ, refl, sym, subst, arith}
+use Rattle.std.proofs.Common.{ℕ, Ok, refl, sym, subst, arith}
 use Rattle.bounds.specs.Meaning.{Below}
 use Rattle.bounds.specs.Timetables.{Keeps, KeepsBound}
 use Rattle.bounds.proofs.Reading.{read_lawful, read_found, read_end, read_counted}
