@@ -10,18 +10,12 @@ use crate::state::State;
 use crate::tables::Tables;
 use network::GroupEntry;
 
-// What an entry past the end of the table would be.
-const NO_ENTRY: GroupEntry = GroupEntry {
-    leader: 0,
-    offset: 0,
-};
-
 impl Tables<'_> {
     /// The entry of a step.
     pub(crate) fn entry(&self, step: usize) -> GroupEntry
         ensures { result ≡ entry_of self.now.entries.now step }
     {
-        self.entries.get(step).copied().unwrap_or(NO_ENTRY)
+        self.entries.get(step).copied().unwrap_or_default()
     }
 
     /// When a step may start, as the call being handled sees it.
