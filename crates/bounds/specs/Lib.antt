@@ -7,6 +7,7 @@ pub mod Items
 pub mod Rows
 pub mod Meaning
 pub mod Spoiled
+pub mod Unread
 pub mod DrawnIn
 pub mod Laws
 pub mod RowList

@@ -4,6 +4,7 @@
 pub mod bound;
 pub mod fault;
 pub mod item;
+pub mod items;
 pub mod joined;
 pub mod limits;
 pub mod list;
@@ -17,6 +18,7 @@ pub mod told;
 pub use bound::Bound;
 pub use fault::Fault;
 pub use item::{Item, NoSuchPlace, drawn_in};
+pub use items::Items;
 pub use joined::Joined;
 pub use list::Rows;
 pub use margin::Margin;

@@ -38,8 +38,8 @@ pub fn beyond_limits<S: Source>(source: &S) -> bool
 pub fn first_spoiled<S: Source>(source: &S) -> Option<SpoiledItem>
     ensures { result ≡ first_spoiled 0 (readable (S.meaning source.now).items) }
 {
-    for place in 0..MOST_ITEMS as usize {
-        if let Err(fault) = source.item(place).ok()? {
+    for (place, item) in source.items() {
+        if let Err(fault) = item {
             return Some(SpoiledItem { place, fault });
         }
     }

@@ -3,6 +3,7 @@ ghost use Rattle.std.specs.Prelude.{◌≡◌};
 ghost use Rattle.bounds.specs.Meaning.{Meaning, counted, read_at};
 
 use crate::item::{Item, NoSuchPlace};
+use crate::items::Items;
 
 /// A number of steps and a list of items. Three questions tell of them, and leave the source as it is.
 pub trait Source {
@@ -20,4 +21,15 @@ pub trait Source {
     /// The item at a place counted from 0. Refuses past the end of the list, and above place 511.
     fn item(&self, place: usize) -> Result<Item, NoSuchPlace>
         ensures { result ≡ read_at (meaning self.now).items place };
+
+    /// The items that can be read, in order, each with its place.
+    final fn items(&self) -> Items<'_, Self>
+        ensures source { result.source.now ≡ self.now }
+        ensures place { result.place ≡ 0 }
+    {
+        Items {
+            source: self,
+            place: 0,
+        }
+    }
 }

@@ -1,4 +1,4 @@
-use Rattle.std.proofs.Common.{rules, ℤ, pos, ◌+ℤ◌, ◌-ℤ◌, sym}
+use Rattle.std.proofs.Common.{rules, pos, ◌+ℤ◌, ◌-ℤ◌, sym}
 use Rattle.std.proofs.lemmas.Bool.{and_parts}
 use Rattle.bounds.specs.Reach.{end_in_reach}
 use Rattle.bounds.proofs.Making.{map_gives, end_near, drawn_in_reach, drawn_out_of_reach}
