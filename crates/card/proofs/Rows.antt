@@ -1,12 +1,12 @@
 -- A bound and the row that its record has, there and back.
-use Rattle.std.proofs.Common.{◌≡◌, ℕ, zero, suc, ◌<◌, Bool, true, false, cond, ◌&&◌, ◌||◌, ltb, ℤ, pos, negsuc, Some, None, Ok, Err, Option, Result, sym, refl, ap, ◌∙◌, arith}
+use Rattle.std.proofs.Common.{◌≡◌, ℕ, zero, suc, ◌<◌, Bool, true, false, cond, ◌&&◌, ltb, ℤ, pos, negsuc, Some, None, Ok, Err, Option, Result, sym, refl, ap, ◌∙◌, arith}
 use Rattle.std.proofs.lemmas.Bool.{and_parts, and_from, lt-ltb, cond-true}
 use Rattle.bounds.specs.declared.bound.Bound.{Bound}
 use Rattle.bounds.specs.declared.fault.Fault.{Fault}
 use Rattle.bounds.specs.declared.row.LooseEnd.{LooseEnd}
 use Rattle.bounds.specs.declared.row.LooseEnd.TheVariants.{Present, Absent}
 use Rattle.bounds.specs.declared.row.Row.{Row}
-use Rattle.bounds.specs.Loose.{is_zero, tidy, end_given}
+use Rattle.bounds.specs.Loose.{tidy, end_given}
 use Rattle.bounds.specs.Made.{where_true, bound_with}
 use Rattle.bounds.specs.Reach.{has_end, ends_in_reach}
 use Rattle.bounds.specs.Rows.{row_item}

@@ -1,5 +1,5 @@
 -- Where the fields of a card stand, and what its bits say; src/layout.rt has the same places.
-use Rattle.std.specs.Prelude.{ℕ, zero, suc, ◌+◌, ◌*◌, ◌/◌, Bool, cond, List, [], ◌∷◌, ℤ, ◌==◌}
+use Rattle.std.specs.Prelude.{ℕ, zero, suc, ◌+◌, ◌*◌, ◌/◌, ◌^◌, ◌<◌, ◌≤◌, Bool, cond, List, [], ◌∷◌, ℤ, ◌==◌}
 use Rattle.bits.specs.Field.{field}
 use Rattle.bits.specs.Signed.{signed}
 use Rattle.bounds.specs.Items.{Item}
@@ -72,6 +72,10 @@ header_bytes = header_bits / 8
 -- the bytes of one record
 abbrev pub record_bytes : ℕ
 record_bytes = record_bits / 8
+
+-- a field of at most so many bits, whose place the 32 bits of a bit's number can hold
+abbrev pub Placed : ℕ → Field → Type 0
+Placed most f = (f.start < 2 ^ 31) × (f.width ≤ most)
 
 -- a field as a number, in the header or record that begins at bit s
 abbrev pub bits_at : List ℕ → ℕ → Field → ℕ

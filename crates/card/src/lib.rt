@@ -2,6 +2,7 @@
 #![tactic(auto)]
 
 pub mod layout;
+mod part;
 pub mod reading;
 pub mod refusal;
 pub mod rewriting;

@@ -1,0 +1,148 @@
+// A part of a card, its header or one of its records: it begins at a bit of bytes.
+ghost use Rattle.std.specs.Prelude.{◌≡◌, ◌+◌, ◌*◌, ◌^◌, ◌<◌};
+ghost use Rattle.bits.specs.Limits.{most_bits, most_signed_bits};
+ghost use Rattle.bits.specs.Signed.{unsigned};
+ghost use Rattle.bits.specs.Wrote.{Wrote};
+ghost use Rattle.bounds.specs.Limits.{most_items};
+ghost use Rattle.card.specs.Layout.{
+  Placed,
+  bits_at,
+  count_field,
+  end_at,
+  header_bits,
+  header_start,
+  is_set_at,
+  record_bits,
+  row_at,
+  signed_at,
+  steps_field,
+};
+
+use crate::layout::{
+    COUNT, FROM, Field, HEADER_BITS, HEADER_START, LOWER, LOWER_PRESENT, RECORD_BITS, STEPS, TO,
+    UPPER, UPPER_PRESENT,
+};
+use bits::{read_field, read_signed, write_field, write_signed};
+use bounds::{LooseEnd, Row};
+
+/// The header or a record, in bytes that are read or written.
+#[derive(Drop)]
+pub(crate) struct Part<B> {
+    bytes: B,
+    start: u32,
+    // its fields begin at a bit that 32 bits can name
+    ghost near: { start < 2 ^ 31 },
+}
+
+impl<B> Part<B> {
+    /// The header.
+    pub(crate) fn header(bytes: B) -> Part<B>
+        ensures bytes { result.bytes ≡ bytes }
+        ensures start { result.start ≡ header_start }
+    {
+        Part {
+            bytes,
+            start: HEADER_START,
+        }
+    }
+
+    /// The record of the item at a place.
+    pub(crate) fn record(bytes: B, place: usize) -> Part<B>
+        requires { place < most_items }
+        ensures bytes { result.bytes ≡ bytes }
+        ensures start { result.start ≡ header_bits + record_bits * place }
+    {
+        Part {
+            bytes,
+            start: HEADER_BITS + RECORD_BITS * place as u32,
+        }
+    }
+}
+
+impl Part<&[u8]> {
+    /// A field as a number.
+    pub(crate) fn number(&self, field: Field) -> u64
+        requires { Placed most_bits field }
+        ensures value { result ≡ bits_at self.now.bytes.now self.now.start field }
+        ensures small { result < 2 ^ field.width }
+    {
+        read_field(self.bytes, self.start + field.start, field.width)
+    }
+
+    // A field in two's complement of its width.
+    fn signed(&self, field: Field) -> i32
+        requires { Placed most_signed_bits field }
+        ensures { result ≡ signed_at self.now.bytes.now self.now.start field }
+    {
+        read_signed(self.bytes, self.start + field.start, field.width)
+    }
+
+    // Whether a field is 1.
+    fn is_set(&self, field: Field) -> bool
+        requires { Placed most_bits field }
+        ensures { result ≡ is_set_at self.now.bytes.now self.now.start field }
+    {
+        self.number(field) == 1
+    }
+
+    // One end: present where its mark is 1.
+    fn end(&self, mark: Field, end: Field) -> LooseEnd
+        requires { Placed most_bits mark × Placed most_signed_bits end }
+        ensures { result ≡ end_at self.now.bytes.now self.now.start mark end }
+    {
+        let seconds = self.signed(end);
+        if self.is_set(mark) {
+            LooseEnd::Present(seconds)
+        } else {
+            LooseEnd::Absent(seconds)
+        }
+    }
+
+    /// The number of steps, of a header.
+    pub(crate) fn steps(&self) -> u16
+        ensures { result ≡ bits_at self.now.bytes.now self.now.start steps_field + 1 }
+    {
+        self.number(STEPS) as u16 + 1
+    }
+
+    /// The number of records, of a header.
+    pub(crate) fn count(&self) -> u16
+        ensures { result ≡ bits_at self.now.bytes.now self.now.start count_field }
+    {
+        self.number(COUNT) as u16
+    }
+
+    /// What a record says.
+    pub(crate) fn row(&self) -> Row
+        ensures { result ≡ row_at self.now.bytes.now self.now.start }
+    {
+        Row {
+            from: self.number(FROM) as u16,
+            to: self.number(TO) as u16,
+            lower: self.end(LOWER_PRESENT, LOWER),
+            upper: self.end(UPPER_PRESENT, UPPER),
+        }
+    }
+}
+
+impl Part<&mut [u8]> {
+    // Writes a field.
+    fn put(&mut self, field: Field, value: u64)
+        requires { Placed most_bits field }
+        ensures wrote { Wrote self.old.bytes.now self.new.bytes.now (self.old.start + field.start) field.width value }
+        ensures start { self.new.start ≡ self.old.start }
+        ensures same { self.new.bytes.ghost_name ≡ self.old.bytes.ghost_name }
+    {
+        write_field(self.bytes, self.start + field.start, field.width, value);
+    }
+
+    // Writes a field in two's complement of its width.
+    fn put_signed(&mut self, field: Field, value: i32)
+        requires { Placed most_signed_bits field }
+        ensures wrote { Wrote self.old.bytes.now self.new.bytes.now (self.old.start + field.start) field.width (unsigned field.width value) }
+        ensures start { self.new.start ≡ self.old.start }
+        ensures same { self.new.bytes.ghost_name ≡ self.old.bytes.ghost_name }
+    {
+        write_signed(self.bytes, self.start + field.start, field.width, value);
+    }
+}
