@@ -1,9 +1,11 @@
 // A part of a card, its header or one of its records: it begins at a bit of bytes.
-ghost use Rattle.std.specs.Prelude.{◌≡◌, ◌+◌, ◌*◌, ◌^◌, ◌<◌};
+ghost use Rattle.std.specs.Prelude.{◌≡◌, ℕ, ◌+◌, ◌*◌, ◌^◌, ◌<◌, ◌≤◌, List, length, pos, unwrap_or};
 ghost use Rattle.bits.specs.Limits.{most_bits, most_signed_bits};
 ghost use Rattle.bits.specs.Signed.{unsigned};
-ghost use Rattle.bits.specs.Wrote.{Wrote};
-ghost use Rattle.bounds.specs.Limits.{most_items};
+ghost use Rattle.bits.specs.Wrote.{KeptOutside, Wrote};
+ghost use Rattle.bounds.specs.Limits.{most_items, most_steps};
+ghost use Rattle.std.specs.Option.{option_len};
+ghost use Rattle.card.specs.Records.{bound_row};
 ghost use Rattle.card.specs.Layout.{
   Placed,
   bits_at,
@@ -23,7 +25,7 @@ use crate::layout::{
     UPPER, UPPER_PRESENT,
 };
 use bits::{read_field, read_signed, write_field, write_signed};
-use bounds::{LooseEnd, Row};
+use bounds::{Bound, LooseEnd, Row};
 
 /// The header or a record, in bytes that are read or written.
 #[derive(Drop)]
@@ -126,8 +128,8 @@ impl Part<&[u8]> {
 }
 
 impl Part<&mut [u8]> {
-    // Writes a field.
-    fn put(&mut self, field: Field, value: u64)
+    /// Writes a field.
+    pub(crate) fn put(&mut self, field: Field, value: u64)
         requires { Placed most_bits field }
         ensures wrote { Wrote self.old.bytes.now self.new.bytes.now (self.old.start + field.start) field.width value }
         ensures start { self.new.start ≡ self.old.start }
@@ -144,5 +146,29 @@ impl Part<&mut [u8]> {
         ensures same { self.new.bytes.ghost_name ≡ self.old.bytes.ghost_name }
     {
         write_signed(self.bytes, self.start + field.start, field.width, value);
+    }
+    // Writes one end: its mark, and its value or 0.
+    fn put_end(&mut self, mark: Field, field: Field, end: Option<i32>)
+        requires { Placed most_bits mark × Placed most_signed_bits field }
+        ensures wrote { (mid : List ℕ) × Wrote self.old.bytes.now mid (self.old.start + mark.start) mark.width (option_len end) × Wrote mid self.new.bytes.now (self.old.start + field.start) field.width (unsigned field.width (unwrap_or end (pos 0))) }
+        ensures start { self.new.start ≡ self.old.start }
+        ensures same { self.new.bytes.ghost_name ≡ self.old.bytes.ghost_name }
+    {
+        self.put(mark, u64::from(end.is_some()));
+        self.put_signed(field, end.unwrap_or(0));
+    }
+
+    /// Writes a record.
+    pub(crate) fn put_bound(&mut self, bound: &Bound)
+        requires steps { (bound.now.from < most_steps) × (bound.now.to < most_steps) }
+        requires room { self.old.start + record_bits ≤ 8 * length self.old.bytes.now }
+        ensures kept { KeptOutside self.old.bytes.now self.new.bytes.now self.old.start (self.old.start + record_bits) }
+        ensures row { row_at self.new.bytes.now self.old.start ≡ bound_row bound.now }
+        ensures same { self.new.bytes.ghost_name ≡ self.old.bytes.ghost_name }
+    {
+        self.put(FROM, u64::from(bound.from_step()));
+        self.put(TO, u64::from(bound.to_step()));
+        self.put_end(LOWER_PRESENT, LOWER, bound.lower_end());
+        self.put_end(UPPER_PRESENT, UPPER, bound.upper_end());
     }
 }

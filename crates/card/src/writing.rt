@@ -1,8 +1,6 @@
 // Any source, written as a card.
 ghost use Rattle.std.specs.Prelude.{◌≡◌, ◌+◌, ◌*◌, ◌^◌, ◌<◌, ◌≤◌, length, Some, None, Ok, MatchResult};
-ghost use Rattle.bits.specs.Limits.{most_bits, most_signed_bits};
-ghost use Rattle.bits.specs.Signed.{unsigned};
-ghost use Rattle.bits.specs.Wrote.{KeptOutside, Wrote};
+ghost use Rattle.bits.specs.Wrote.{KeptOutside};
 ghost use Rattle.bounds.specs.Limits.{most_items, most_steps};
 ghost use Rattle.bounds.specs.Meaning.{read_at};
 ghost use Rattle.bounds.specs.declared.bound.Bound.{Bound};
@@ -11,13 +9,10 @@ ghost use Rattle.card.specs.Records.{HasHeader, HasRecords, bound_row};
 ghost use Rattle.card.specs.Refusals.{told_write};
 ghost use Rattle.card.specs.Writing.{WroteCard, card_size, write_refusal};
 
-use crate::layout::{
-    COUNT, EDITION, EDITION_NUMBER, FROM, Field, HEADER_BITS, HEADER_BYTES, HEADER_START, LOWER,
-    LOWER_PRESENT, RECORD_BITS, RECORD_BYTES, SPARE, STEPS, TO, UPPER, UPPER_PRESENT,
-};
+use crate::layout::{COUNT, EDITION, EDITION_NUMBER, HEADER_BYTES, RECORD_BYTES, SPARE, STEPS};
+use crate::part::Part;
 use crate::refusal::WriteRefusal;
-use bits::{write_field, write_signed};
-use bounds::{Bound, Source, beyond_limits, first_spoiled};
+use bounds::{Source, beyond_limits, first_spoiled};
 
 /// Writes a source as a card, and answers how many bytes that took. Refuses beyond the limits, then without the room, then for the first spoiled item; then `out` stays as it was.
 pub fn write_card<S: Source>(source: &S, out: &mut [u8]) -> Result<usize, WriteRefusal>
@@ -62,7 +57,7 @@ fn put_record<S: Source>(source: &S, place: usize, out: &mut [u8])
     ensures holds { (b : Bound) → Ok (Ok b) ≡ read_at (S.meaning source.now).items place → row_at out.new (header_bits + record_bits * place) ≡ bound_row b }
 {
     if let Ok(Ok(bound)) = source.item(place) {
-        put_bound(out, HEADER_BITS + RECORD_BITS * place as u32, &bound);
+        Part::record(out, place).put_bound(&bound);
     }
 }
 
@@ -74,42 +69,9 @@ fn put_header(out: &mut [u8], steps: u16, count: u16)
     ensures kept { KeptOutside out.old out.new header_start header_bits }
     ensures header { HasHeader out.new steps count }
 {
-    put_unsigned(out, HEADER_START, EDITION, EDITION_NUMBER);
-    put_unsigned(out, HEADER_START, STEPS, u64::from(steps - 1));
-    put_unsigned(out, HEADER_START, COUNT, u64::from(count));
-    put_unsigned(out, HEADER_START, SPARE, 0);
-}
-
-// Writes the record that begins at a bit.
-fn put_bound(out: &mut [u8], start: u32, bound: &Bound)
-    requires place { start < 2 ^ 31 }
-    requires steps { (bound.now.from < most_steps) × (bound.now.to < most_steps) }
-    requires room { start + record_bits ≤ 8 * length out.old }
-    ensures kept { KeptOutside out.old out.new start (start + record_bits) }
-    ensures row { row_at out.new start ≡ bound_row bound.now }
-{
-    let lower = bound.lower_end();
-    let upper = bound.upper_end();
-    put_unsigned(out, start, FROM, u64::from(bound.from_step()));
-    put_unsigned(out, start, TO, u64::from(bound.to_step()));
-    put_unsigned(out, start, LOWER_PRESENT, u64::from(lower.is_some()));
-    put_unsigned(out, start, UPPER_PRESENT, u64::from(upper.is_some()));
-    put_signed(out, start, LOWER, lower.unwrap_or(0));
-    put_signed(out, start, UPPER, upper.unwrap_or(0));
-}
-
-// Writes a field of the part that begins at a bit.
-fn put_unsigned(out: &mut [u8], start: u32, field: Field, value: u64)
-    requires { (start + field.start < 2 ^ 32) × (field.width ≤ most_bits) }
-    ensures { Wrote out.old out.new (start + field.start) field.width value }
-{
-    write_field(out, start + field.start, field.width, value);
-}
-
-// Writes the same field in two's complement of its width.
-fn put_signed(out: &mut [u8], start: u32, field: Field, value: i32)
-    requires { (start + field.start < 2 ^ 32) × (field.width ≤ most_signed_bits) }
-    ensures { Wrote out.old out.new (start + field.start) field.width (unsigned field.width value) }
-{
-    write_signed(out, start + field.start, field.width, value);
+    let mut header = Part::header(out);
+    header.put(EDITION, EDITION_NUMBER);
+    header.put(STEPS, u64::from(steps - 1));
+    header.put(COUNT, u64::from(count));
+    header.put(SPARE, 0);
 }
