@@ -44,3 +44,7 @@ filling_more items xs ys zs k l h w r = record {
 -- all of them
 pub filling_all : (items : List Item) (xs ys : List ℕ) (k : ℕ) → k ≡ length items → Filling items xs ys k → HasRecords ys items
 filling_all items xs ys k e h = λ j b f. h.records j b (omega (arith, nth_within items j (Ok b) f)) f
+
+-- and nothing else is changed
+pub filling_kept : (items : List Item) (xs ys : List ℕ) (k : ℕ) → Filling items xs ys k → KeptOutside xs ys header_bits (header_bits + record_bits * k)
+filling_kept items xs ys k h = h.kept

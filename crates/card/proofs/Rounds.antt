@@ -9,15 +9,16 @@ use Rattle.bits.proofs.Writes.{field_kept, kept_within}
 use Rattle.bounds.specs.Items.{Item}
 use Rattle.bounds.specs.Meaning.{Meaning, Below}
 use Rattle.bounds.specs.Rows.{row_item}
-use Rattle.bounds.specs.Spoiled.{first_spoiled}
+use Rattle.bounds.specs.Spoiled.{first_spoiled, readable}
 use Rattle.bounds.specs.Told.{beyond_limits}
 use Rattle.card.specs.Layout.{header_start, header_bits, record_bits, steps_of, row_at, item_at, items_of, listed}
 use Rattle.card.specs.Records.{HasHeader, HasRecords}
-use Rattle.card.specs.Writing.{card_size, IsCardOf, WroteCard}
+use Rattle.card.specs.Writing.{card_size, IsCardOf, WroteCard, write_refusal}
 use Rattle.card.proofs.Filling.{nth_within}
 use Rattle.card.proofs.Rows.{bound_row_item}
+use Rattle.bounds.proofs.Reading.{readable_all}
 use Rattle.bounds.proofs.Within.{Within, within}
-use Rattle.card.proofs.Tests.{opens, no_spoiled}
+use Rattle.card.proofs.Tests.{opens, no_spoiled, refused_spoiled}
 
 -- lists
 
@@ -79,18 +80,22 @@ is_card m ys can room none header records =
         ∙ bound_row_item m.steps b below.0 below.1
 
 -- the header and then the records
-pub wrote_card : (m : Meaning) (size : ℕ) (xs ys zs : List ℕ) → size ≡ card_size m → beyond_limits m ≡ false → card_size m ≤ length xs → first_spoiled 0 m.items ≡ None
+pub wrote_card : (m : Meaning) (size : ℕ) (xs ys zs : List ℕ) → size ≡ card_size m → beyond_limits m ≡ false → card_size m ≤ length xs → None ≡ first_spoiled 0 (readable m.items)
     → KeptOutside xs ys header_start header_bits → HasHeader ys m.steps (length m.items)
-    → KeptOutside ys zs header_bits (header_bits + record_bits * length m.items) → HasRecords zs m.items → WroteCard m size xs zs
+    → KeptOutside ys zs header_bits (header_bits + record_bits * length m.items) → HasRecords zs m.items
+    → (write_refusal m (length xs) ≡ None) × WroteCard m size xs zs
 wrote_card m size xs ys zs e limits room none front header back records =
+    let clean : first_spoiled 0 m.items ≡ None = sym (none ∙ ap (first_spoiled 0) (readable_all m.items (within m limits).few)) in
     let h = header_as ys zs m.steps (length m.items) (λ s w l. field_kept ys zs _ _ s w back (inl (omega arith))) header in
     let all : KeptOutside xs zs 0 (header_bits + record_bits * length m.items) = kept_within xs ys zs _ _ _ _ 0 (header_bits + record_bits * length m.items) (omega arith) (omega arith) (omega arith) (omega arith) front back in
-    let l = all.long in
-    record {
-      size = e;
-      fits = omega arith;
-      card = subst (λ n. IsCardOf m (take n zs)) (sym e) (is_card m zs (within m limits) (omega arith) none h records);
-      header = h;
-      records = records;
-      behind = drop_kept xs zs 0 (header_bits + record_bits * length m.items) size all (omega arith);
-    }
+    let l = all.long in (
+      refused_spoiled m (length xs) None limits room none,
+      record {
+        size = e;
+        fits = omega arith;
+        card = subst (λ n. IsCardOf m (take n zs)) (sym e) (is_card m zs (within m limits) (omega arith) clean h records);
+        header = h;
+        records = records;
+        behind = drop_kept xs zs 0 (header_bits + record_bits * length m.items) size all (omega arith);
+      },
+    )

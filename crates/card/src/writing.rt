@@ -15,6 +15,7 @@ use crate::refusal::WriteRefusal;
 use bounds::{Source, beyond_limits, first_spoiled};
 
 /// Writes a source as a card, and answers how many bytes that took. Refuses beyond the limits, then without the room, then for the first spoiled item; then `out` stays as it was.
+#[tactic(auto, using(crate::proofs::Tests::refused_spoiled))]
 pub fn write_card<S: Source>(source: &S, out: &mut [u8]) -> Result<usize, WriteRefusal>
     ensures { MatchResult result (λ size. (write_refusal (S.meaning source.now) (length out.old) ≡ None) × WroteCard (S.meaning source.now) size out.old out.new) (λ e. (write_refusal (S.meaning source.now) (length out.old) ≡ Some (told_write e)) × (out.new ≡ out.old)) }
 {
@@ -35,6 +36,7 @@ pub fn write_card<S: Source>(source: &S, out: &mut [u8]) -> Result<usize, WriteR
 }
 
 // Writes the record of each bound of the list.
+#[tactic(auto, using(crate::proofs::Filling::filling_none, crate::proofs::Filling::filling_all, crate::proofs::Filling::filling_kept))]
 fn put_records<S: Source>(source: &S, count: u16, out: &mut [u8])
     requires count { count ≡ length (S.meaning source.now).items }
     requires few { count ≤ most_items }
