@@ -1,7 +1,8 @@
 -- The turns of the writer: the records so far.
-use Rattle.std.proofs.Common.{◌≡◌, ℕ, zero, suc, ◌+◌, ◌*◌, ◌<◌, List, [], ◌∷◌, length, Some, Ok, sym, ap, ◌∙◌, inl, inr, arith}
+use Rattle.std.proofs.Common.{◌≡◌, ℕ, ◌+◌, ◌*◌, ◌<◌, List, length, Some, Ok, sym, ap, ◌∙◌, inl, inr, arith}
 use Rattle.std.specs.Option.{ok_or}
 use Rattle.std.specs.List.{slice_get}
+use Rattle.std.proofs.lemmas.Option.{slice_get_within}
 use Rattle.std.proofs.lemmas.Bool.{cases_eq}
 use Rattle.bits.specs.Wrote.{KeptOutside}
 use Rattle.bits.proofs.Writes.{kept_none, kept_within}
@@ -13,12 +14,6 @@ use Rattle.bounds.proofs.Reading.{read_below}
 use Rattle.card.specs.Layout.{header_bits, record_bits, row_at}
 use Rattle.card.specs.Records.{HasRecords, bound_row}
 use Rattle.card.proofs.Puts.{row_kept}
-
--- where an item stands, the list is long enough
-pub nth_within : {X : Type 0} (xs : List X) (j : ℕ) (x : X) → slice_get xs j ≡ Some x → j < length xs
-nth_within [] j x e = let z : ◌≡◌ {A = ℕ} 0 1 = cc in absurd (omega arith)
-nth_within (y ∷ ys) zero x e = omega arith
-nth_within (y ∷ ys) (suc j) x e = omega (arith, nth_within ys j x e)
 
 -- the first k records are written
 pub record Filling (items : List Item) (xs ys : List ℕ) (k : ℕ) : Type 0 where
@@ -43,7 +38,7 @@ filling_more items xs ys zs k l h w r = record {
 
 -- all of them
 pub filling_all : (items : List Item) (xs ys : List ℕ) (k : ℕ) → k ≡ length items → Filling items xs ys k → HasRecords ys items
-filling_all items xs ys k e h = λ j b f. h.records j b (omega (arith, nth_within items j (Ok b) f)) f
+filling_all items xs ys k e h = λ j b f. h.records j b (omega (arith, slice_get_within items j (Ok b) f)) f
 
 -- and nothing else is changed
 pub filling_kept : (items : List Item) (xs ys : List ℕ) (k : ℕ) → Filling items xs ys k → KeptOutside xs ys header_bits (header_bits + record_bits * k)

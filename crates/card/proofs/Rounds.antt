@@ -1,6 +1,6 @@
 -- What was written opens as the card of the source.
-use Rattle.std.proofs.Common.{◌≡◌, ℕ, zero, suc, ◌+◌, ◌*◌, ◌≤◌, false, List, [], ◌∷◌, length, take, Some, None, Ok, Err, sym, refl, ap, ◌∙◌, subst, inl, arith}
-use Rattle.std.specs.List.{AllByRecursion, slice_get}
+use Rattle.std.proofs.Common.{◌≡◌, ℕ, zero, suc, ◌+◌, ◌*◌, ◌≤◌, false, List, [], ◌∷◌, length, map, take, Some, None, Ok, Err, sym, refl, ap, ◌∙◌, subst, inl, arith}
+use Rattle.std.specs.List.{AllByRecursion, range_with_len, slice_get}
 use Rattle.std.proofs.lemmas.List.{length-take-le}
 use Rattle.bits.specs.Field.{field}
 use Rattle.bits.specs.Wrote.{KeptOutside}
@@ -11,10 +11,10 @@ use Rattle.bounds.specs.Meaning.{Meaning, Below}
 use Rattle.bounds.specs.Rows.{row_item}
 use Rattle.bounds.specs.Spoiled.{first_spoiled, readable}
 use Rattle.bounds.specs.Told.{beyond_limits}
-use Rattle.card.specs.Layout.{header_start, header_bits, record_bits, steps_of, row_at, item_at, items_of, listed}
+use Rattle.card.specs.Layout.{header_start, header_bits, record_bits, steps_of, row_at, item_at, items_of}
 use Rattle.card.specs.Records.{HasHeader, HasRecords}
 use Rattle.card.specs.Writing.{card_size, IsCardOf, WroteCard, write_refusal}
-use Rattle.card.proofs.Filling.{nth_within}
+use Rattle.std.proofs.lemmas.Option.{slice_get_within}
 use Rattle.card.proofs.Rows.{bound_row_item}
 use Rattle.bounds.proofs.Reading.{readable_all}
 use Rattle.bounds.proofs.Within.{Within, within}
@@ -22,7 +22,7 @@ use Rattle.card.proofs.Tests.{opens, no_spoiled, refused_spoiled}
 
 -- lists
 
-listed_is : {X : Type 0} (f : ℕ → X) (i : ℕ) (xs : List X) → ((k : ℕ) (x : X) → slice_get xs k ≡ Some x → f (i + k) ≡ x) → listed f i (length xs) ≡ xs
+listed_is : {X : Type 0} (f : ℕ → X) (i : ℕ) (xs : List X) → ((k : ℕ) (x : X) → slice_get xs k ≡ Some x → f (i + k) ≡ x) → map f (range_with_len i (length xs)) ≡ xs
 listed_is f i [] h = refl
 listed_is f i (x ∷ xs) h =
     let a : f i ≡ x = ap f (omega arith) ∙ h 0 x refl in
@@ -30,7 +30,7 @@ listed_is f i (x ∷ xs) h =
     rw (a, b)
 
 all_nth : {X : Type 0} (P : X → Type 0) (xs : List X) (i : ℕ) (x : X) → AllByRecursion P xs → slice_get xs i ≡ Some x → P x
-all_nth P [] i x a h = let z : ◌≡◌ {A = ℕ} 0 1 = cc in absurd (omega arith)
+all_nth P [] i x a h = absurd (cc)
 all_nth P (y ∷ ys) zero x a h = let e : y ≡ x = cc in subst P e a.0
 all_nth P (y ∷ ys) (suc i) x a h = all_nth P ys i x a.1 h
 
@@ -65,7 +65,7 @@ is_card m ys can room none header records =
     record {
       opens = opens card (record { edition = h.edition; spare = h.spare; few = omega arith; long = omega arith });
       steps = h.steps;
-      items = ap (listed (item_at card) 0) h.count ∙ listed_is (item_at card) 0 m.items (λ k x e. one k x e h.steps (all_nth (Below m.steps) m.items k x m.law.each e));
+      items = ap (λ n. map (item_at card) (range_with_len 0 n)) h.count ∙ listed_is (item_at card) 0 m.items (λ k x e. one k x e h.steps (all_nth (Below m.steps) m.items k x m.law.each e));
     }
   where
     one : (k : ℕ) (x : Item) → slice_get m.items k ≡ Some x → steps_of (take (card_size m) ys) ≡ m.steps → Below m.steps x → item_at (take (card_size m) ys) (0 + k) ≡ x
@@ -73,7 +73,7 @@ is_card m ys can room none header records =
     one k (Ok b) e g below =
         let zs = take (card_size m) ys in
         let start : header_bits + record_bits * (0 + k) ≡ header_bits + record_bits * k = omega arith in
-        let l = nth_within m.items k (Ok b) e in
+        let l = slice_get_within m.items k (Ok b) e in
         ap (λ n. row_item n (row_at zs (header_bits + record_bits * (0 + k)))) g
         ∙ ap (λ i. row_item m.steps (row_at zs i)) start
         ∙ ap (row_item m.steps) (row_take (card_size m) ys (header_bits + record_bits * k) (omega arith) ∙ records k b e)

@@ -1,5 +1,5 @@
 -- A bound and the row that its record has, there and back.
-use Rattle.std.proofs.Common.{◌≡◌, ℕ, zero, suc, ◌<◌, Bool, true, false, cond, ◌&&◌, ltb, ℤ, pos, negsuc, Some, None, Ok, Err, Option, Result, sym, refl, ap, ◌∙◌, arith}
+use Rattle.std.proofs.Common.{◌≡◌, ℕ, zero, suc, ◌<◌, Bool, true, false, cond, ◌&&◌, ltb, ℤ, pos, negsuc, Some, None, Ok, Err, Option, Result, sym, refl, ap, ◌∙◌}
 use Rattle.std.proofs.lemmas.Bool.{and_parts, and_from, lt-ltb, cond-true}
 use Rattle.bounds.specs.declared.bound.Bound.{Bound}
 use Rattle.bounds.specs.declared.fault.Fault.{Fault}
@@ -40,14 +40,14 @@ cond_back true x y z e ne = (refl, e)
 cond_back false x y z e ne = absurd (ne e)
 
 err_not_ok : (f : Fault) (b : Bound) → ◌≡◌ {A = Result Bound Fault} (Err f) (Ok b) → ⊥
-err_not_ok f b e = let q : ◌≡◌ {A = ℕ} 0 1 = cc in omega arith
+err_not_ok f b e = cc
 
 -- a loose end that is tidy is that of the end that it gives
 tidy_back : (x : LooseEnd) → tidy x ≡ true → x ≡ loose_end (end_given x)
 tidy_back (Present z) e = refl
 tidy_back (Absent (pos zero)) e = refl
-tidy_back (Absent (pos (suc n))) e = let q : ◌≡◌ {A = ℕ} 0 1 = cc in absurd (omega arith)
-tidy_back (Absent (negsuc n)) e = let q : ◌≡◌ {A = ℕ} 0 1 = cc in absurd (omega arith)
+tidy_back (Absent (pos (suc n))) e = absurd (cc)
+tidy_back (Absent (negsuc n)) e = absurd (cc)
 
 ends_back : (from to : ℕ) (lower upper : Option ℤ) (b : Bound) → bound_with from to lower upper ≡ Ok b → (from ≡ b.from) × (to ≡ b.to) × (lower ≡ b.lower) × (upper ≡ b.upper)
 ends_back from to lower upper b e =

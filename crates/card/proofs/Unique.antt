@@ -1,8 +1,9 @@
 -- A source without a spoiled item has one card.
-use Rattle.std.proofs.Common.{◌≡◌, ℕ, zero, suc, ◌+◌, ◌-◌, ◌*◌, ◌/◌, ◌<◌, ◌≤◌, Bool, true, false, cond, ℤ, eqb, List, length, get_or, take, drop, Some, None, Ok, Err, sym, refl, ap, ◌∙◌, subst, inl, inr, arith, length-take}
+use Rattle.std.proofs.Common.{◌≡◌, ℕ, ◌+◌, ◌-◌, ◌*◌, ◌/◌, ◌<◌, ◌≤◌, Bool, true, false, cond, ℤ, eqb, List, length, get_or, take, drop, Some, None, Ok, Err, sym, refl, ap, ◌∙◌, subst, inl, inr, arith, length-take}
 use Rattle.std.specs.List.{slice_get}
 use Rattle.std.proofs.lemmas.List.{take_all, get_or-take, get_or_past}
 use Rattle.std.proofs.lemmas.Bool.{cases_lt}
+use Rattle.std.proofs.lemmas.Bool.Decides.{nat_tests}
 use Rattle.bits.specs.Field.{bit, field}
 use Rattle.bits.specs.Signed.{signed, unsigned}
 use Rattle.bits.proofs.Bytes.{bits_same_at, take_same}
@@ -25,13 +26,7 @@ use Rattle.card.proofs.Tests.{Opened, opened, no_spoiled, refused_none}
 -- the fields of equal records
 
 mark_same : (x y : ℕ) → x < 2 → y < 2 → eqb x 1 ≡ eqb y 1 → x ≡ y
-mark_same zero zero p q e = refl
-mark_same zero (suc zero) p q e = let z : ◌≡◌ {A = ℕ} 0 1 = cc in absurd (omega arith)
-mark_same (suc zero) zero p q e = let z : ◌≡◌ {A = ℕ} 0 1 = cc in absurd (omega arith)
-mark_same (suc zero) (suc zero) p q e = refl
-mark_same (suc (suc x)) y p q e = absurd (omega arith)
-mark_same zero (suc (suc y)) p q e = absurd (omega arith)
-mark_same (suc zero) (suc (suc y)) p q e = absurd (omega arith)
+mark_same x y p q e = grind (arith, nat_tests)
 
 signed_same : (xs ys : List ℕ) (s w : ℕ) → signed w (field xs s w) ≡ signed w (field ys s w) → field xs s w ≡ field ys s w
 signed_same xs ys s w e = sym (unsigned_signed w (field xs s w) (field_lt xs s w)) ∙ ap (unsigned w) e ∙ unsigned_signed w (field ys s w) (field_lt ys s w)
@@ -40,8 +35,8 @@ signed_same xs ys s w e = sym (unsigned_signed w (field xs s w) (field_lt xs s w
 ends_same : (b c : Bool) (y z : ℤ) → ◌≡◌ {A = LooseEnd} (cond b (Present y) (Absent y)) (cond c (Present z) (Absent z)) → (b ≡ c) × (y ≡ z)
 ends_same true true y z e = (refl, cc)
 ends_same false false y z e = (refl, cc)
-ends_same true false y z e = let q : ◌≡◌ {A = ℕ} 0 1 = cc in absurd (omega arith)
-ends_same false true y z e = let q : ◌≡◌ {A = ℕ} 0 1 = cc in absurd (omega arith)
+ends_same true false y z e = absurd (cc)
+ends_same false true y z e = absurd (cc)
 
 -- equal records have the same bits
 row_bits : (xs ys : List ℕ) (s : ℕ) → row_at xs s ≡ row_at ys s → (i : ℕ) → s ≤ i → i < s + record_bits → bit xs i ≡ bit ys i

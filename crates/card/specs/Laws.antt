@@ -1,14 +1,14 @@
 -- That the items of any bytes keep the law of a source: each bound names two steps below the number of steps.
-use Rattle.std.specs.Prelude.{ℕ, zero, suc, ◌+◌, ◌*◌, List}
+use Rattle.std.specs.Prelude.{ℕ, zero, suc, ◌+◌, ◌*◌, List, map}
 use Rattle.std.proofs.Common.{arith}
-use Rattle.std.specs.List.{AllByRecursion}
+use Rattle.std.specs.List.{AllByRecursion, range_with_len}
 use Rattle.bits.proofs.Fields.{field_lt}
 use Rattle.bounds.specs.Laws.{row_below}
 use Rattle.bounds.specs.Meaning.{Below, Lawful}
-use Rattle.card.specs.Layout.{steps_field, header_start, header_bits, record_bits, steps_of, count_of, row_at, item_at, listed, items_of}
+use Rattle.card.specs.Layout.{steps_field, header_start, header_bits, record_bits, steps_of, count_of, row_at, item_at, items_of}
 
 -- what holds of each f k holds of each of the list
-all_listed : {X : Type 0} (P : X → Type 0) (f : ℕ → X) → ((k : ℕ) → P (f k)) → (i n : ℕ) → AllByRecursion P (listed f i n)
+all_listed : {X : Type 0} (P : X → Type 0) (f : ℕ → X) → ((k : ℕ) → P (f k)) → (i n : ℕ) → AllByRecursion P (map f (range_with_len i n))
 all_listed P f h i zero = tt
 all_listed P f h i (suc n) = (h i, all_listed P f h (i + 1) n)
 

@@ -1,5 +1,6 @@
--- Where the fields of a card stand, and what its bits say; src/layout.rt has the same places.
-use Rattle.std.specs.Prelude.{ℕ, zero, suc, ◌+◌, ◌*◌, ◌/◌, ◌^◌, ◌<◌, ◌≤◌, Bool, cond, List, [], ◌∷◌, ℤ, ◌==◌}
+-- Where the fields of a card stand, and what its bits say. src/layout.rt has the same places: they are written out here too, so that a constant that is changed there is refused.
+use Rattle.std.specs.Prelude.{ℕ, ◌+◌, ◌*◌, ◌/◌, ◌^◌, ◌<◌, ◌≤◌, Bool, cond, List, map, ℤ, ◌==◌}
+use Rattle.std.specs.List.{range_with_len}
 use Rattle.bits.specs.Field.{field}
 use Rattle.bits.specs.Signed.{signed}
 use Rattle.bounds.specs.Items.{Item}
@@ -114,11 +115,6 @@ row_at xs s = record {
 abbrev pub item_at : List ℕ → ℕ → Item
 item_at xs k = row_item (steps_of xs) (row_at xs (header_bits + record_bits * k))
 
--- f i, f (i + 1), ..: n of them
-abbrev pub listed : {X : Type 0} → (ℕ → X) → ℕ → ℕ → List X
-listed f i zero = []
-listed f i (suc n) = f i ∷ listed f (i + 1) n
-
 -- the items of a card, one for each record
 unfoldable pub items_of : List ℕ → List Item
-items_of xs = listed (item_at xs) 0 (count_of xs)
+items_of xs = map (item_at xs) (range_with_len 0 (count_of xs))

@@ -1,5 +1,5 @@
 -- Entries that are ordered by a row of keys are in a total order.
-use Rattle.std.proofs.Common.{◌≡◌, ℕ, true, false, List, [], ◌∷◌, refl, ap, inl, inr, arith}
+use Rattle.std.proofs.Common.{◌≡◌, ℕ, true, List, [], ◌∷◌, refl, ap, inl, inr, arith}
 use Rattle.std.proofs.lemmas.Bool.{cases_order}
 use Rattle.std.proofs.lemmas.Bool.Decides.{nat_tests}
 use Rattle.queue.specs.Order.{OneOf, first, second, same, Total}
@@ -8,8 +8,8 @@ use Rattle.queue.specs.Keys.{earlier}
 -- of two rows exactly one comes first, or they are equal
 pub one_earlier : (ms ns : List ℕ) → OneOf earlier ms ns
 one_earlier [] [] = same refl refl refl
-one_earlier [] (n ∷ ns) = first refl refl (λ e. let z : ◌≡◌ {A = ℕ} 0 1 = cc in omega arith)
-one_earlier (m ∷ ms) [] = second refl refl (λ e. let z : ◌≡◌ {A = ℕ} 0 1 = cc in omega arith)
+one_earlier [] (n ∷ ns) = first refl refl (λ e. cc)
+one_earlier (m ∷ ms) [] = second refl refl (λ e. cc)
 one_earlier (m ∷ ms) (n ∷ ns) =
     elim (cases_order m n) [
       | inl e ↦ elim (one_earlier ms ns) [
@@ -26,7 +26,7 @@ pub onward_earlier : (ls ms ns : List ℕ) → earlier ls ms ≡ true → earlie
 onward_earlier [] [] ns p q = q
 onward_earlier [] (m ∷ ms) [] p q = q
 onward_earlier [] (m ∷ ms) (n ∷ ns) p q = refl
-onward_earlier (l ∷ ls) [] ns p q = let z : false ≡ true = p in grind arith
+onward_earlier (l ∷ ls) [] ns p q = absurd (cc)
 onward_earlier (l ∷ ls) (m ∷ ms) [] p q = q
 onward_earlier (l ∷ ls) (m ∷ ms) (n ∷ ns) p q = let rest = onward_earlier ls ms ns in grind (arith, nat_tests)
 

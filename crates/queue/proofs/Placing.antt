@@ -1,9 +1,9 @@
--- What the placing of an entry keeps, and the loop that places it.
+-- What the placing of an entry keeps, and what the slots are once it is placed.
 use Rattle.std.proofs.Common.{◌≡◌, ℕ, zero, suc, ◌+◌, ◌-◌, ◌<◌, ◌≤◌, Bool, true, false, not, ◌⊎◌, ◌↔◌, List, [], ◌∷◌, ◌++◌, length, get_or, take, drop, set, sym, refl, ap, ◌∙◌, subst, inl, inr, append_assoc, arith}
 use mathlib.Core.List.Memᴰ
 use mathlib.Core.List.{Memᴰ}
 use Rattle.std.proofs.lemmas.List.{set_split, take-take, length-take-le, take_at, drop_at, drop-drop, drop-take, take-append-le, length-append}
-use Rattle.std.proofs.lemmas.Bool.{both_ways, and_from, and_parts, and_cases, and_right, cond-true, cond-false, cond_both, cases_Bool}
+use Rattle.std.proofs.lemmas.Bool.{both_ways, and_from, and_parts, cond-true, cond-false, cond_both, cases_Bool}
 use Rattle.std.proofs.lemmas.List.Folds.{list_all_at}
 use Rattle.std.specs.List.{AllWithin, IsAfterLastMatch, copy_within, list_all}
 use Rattle.queue.specs.Order.{first, second, same, Total, NoneBefore, Ascending, Strictly, placed}
@@ -18,8 +18,7 @@ module _ {X : Type 0} (lt : X → X → Bool) where
   -- one entry more
   pub length_placed : (x : X) (ys : List X) → length (placed lt x ys) ≡ length ys + 1
   length_placed x [] = refl
-  length_placed x (y ∷ ys) =
-      cond_both (list_all (lt x) (y ∷ ys)) (x ∷ (y ∷ ys)) (y ∷ placed lt x ys) (λ zs. length zs ≡ length (y ∷ ys) + 1) (λ _. omega arith) (λ _. let rest = length_placed x ys in omega arith)
+  length_placed x (y ∷ ys) = let rest = length_placed x ys in grind arith
 
   -- the entries are x and those of the list
   pub mem_placed : (x : X) (ys : List X) (z : X) → Memᴰ z (placed lt x ys) ↔ ((z ≡ x) ⊎ Memᴰ z ys)
@@ -35,12 +34,8 @@ module _ {X : Type 0} (lt : X → X → Bool) where
 
   -- y comes before all with x placed, where it comes before x and all of the list
   after_all_placed : (y x : X) (ys : List X) → lt y x ≡ true → list_all (lt y) ys ≡ true → list_all (lt y) (placed lt x ys) ≡ true
-  after_all_placed y x [] e h = and_from (lt y x) true e refl
-  after_all_placed y x (z ∷ zs) e h =
-      let (f, rest) = and_parts (lt y z) (list_all (lt y) zs) h in
-      cond_both (list_all (lt x) (z ∷ zs)) (x ∷ (z ∷ zs)) (z ∷ placed lt x zs) (λ ws. list_all (lt y) ws ≡ true)
-      (λ _. and_from (lt y x) (list_all (lt y) (z ∷ zs)) e h)
-      (λ _. and_from (lt y z) (list_all (lt y) (placed lt x zs)) f (after_all_placed y x zs e rest))
+  after_all_placed y x [] e h = grind arith
+  after_all_placed y x (z ∷ zs) e h = let rest = after_all_placed y x zs e in grind arith
 
   -- x comes before all entries, said place by place
   before_all : (x : X) (ys : List X) → AllWithin (λ y. not (lt x y) ≡ false) ys 0 (length ys) → list_all (lt x) ys ≡ true
@@ -94,15 +89,11 @@ module _ {X : Type 0} {lt : X → X → Bool} (laws : Total lt) where
 
   -- x does not come before y, the first of an ascending list, where it does not come before all of the list
   not_before_first : (x y : X) (ys : List X) → NoneBefore lt y ys → list_all (lt x) (y ∷ ys) ≡ false → lt x y ≡ false
-  not_before_first x y [] h e = elim (and_cases (lt x y) true e) [ inl n ↦ n | inr n ↦ absurd (both_ways true n refl) ]
+  not_before_first x y [] h e = grind arith
   not_before_first x y (z ∷ zs) h e =
-      elim (and_cases (lt x y) (list_all (lt x) (z ∷ zs)) e) [
-        | inl n ↦ n
-        | inr n ↦ elim (and_cases (lt x z) (list_all (lt x) zs) n) [
-          | inl xz ↦ stays_behind x y z h.0 xz
-          | inr m ↦ not_before_first x y zs h.1 (and_right (lt x y) (list_all (lt x) zs) m)
-        ]
-      ]
+      let behind = stays_behind x y z h.0 in
+      let rest = not_before_first x y zs h.1 in
+      grind arith
 
   -- where neither x nor an entry of the list comes before y, none does with x placed
   none_before_placed : (y x : X) (ys : List X) → lt x y ≡ false → NoneBefore lt y ys → NoneBefore lt y (placed lt x ys)
@@ -122,8 +113,9 @@ module _ {X : Type 0} {lt : X → X → Bool} (laws : Total lt) where
   pub after_all_onward : (x y : X) (ys : List X) → lt x y ≡ true → list_all (lt y) ys ≡ true → list_all (lt x) ys ≡ true
   after_all_onward x y [] e h = refl
   after_all_onward x y (z ∷ zs) e h =
-      let (f, rest) = and_parts (lt y z) (list_all (lt y) zs) h in
-      and_from (lt x z) (list_all (lt x) zs) (laws.onward x y z e f) (after_all_onward x y zs e rest)
+      let next = laws.onward x y z e in
+      let rest = after_all_onward x y zs e in
+      grind arith
 
   -- a list in which each entry comes before every later one stays so with x placed, where x is not among it
   pub strictly_placed : (x : X) (ys : List X) → Strictly lt ys → (Memᴰ x ys → ⊥) → Strictly lt (placed lt x ys)
