@@ -54,11 +54,11 @@ field_kept xs ys s e a w h o = field_same ys xs a w (λ i l k. h.bits i (elim o 
 pub field_written : (xs ys zs : List ℕ) (s w v a e : ℕ) → Wrote xs ys s w v → s + w ≤ 8 * length xs → v < 2 ^ w → KeptOutside ys zs a e → s + w ≤ a → field zs s w ≡ v
 field_written xs ys zs s w v a e h room l k b = field_kept ys zs a e s w k (inl b) ∙ h.whole room ∙ mod-eq_of_lt l
 
--- one bit
-
 -- a signed number that was written and fits its width is read again
 pub signed_written : (xs ys : List ℕ) (s w : ℕ) (z : ℤ) → Wrote xs ys s w (unsigned w z) → InRange w z → s + w ≤ 8 * length xs → signed w (field ys s w) ≡ z
 signed_written xs ys s w z h r room = ap (signed w) (h.whole room ∙ mod-eq_of_lt (unsigned_lt w z)) ∙ signed_unsigned w z r
+
+-- one bit
 
 -- one bit of a byte turned over: another bit stays, and this one, where it was not v, is v
 flip_other : (b j k : ℕ) → j < 8 → k < 8 → (j ≡ k → ⊥) → bit_of (bit_xor b (2 ^ (7 - k))) j ≡ bit_of b j

@@ -1,4 +1,4 @@
--- The widths at which a field is cut.
+-- The widths at which a field is cut. src/lib.rt has the same: they are written out here too, so that a constant that is changed there is refused.
 use Rattle.std.specs.Prelude.{ℕ}
 
 -- the most bits that one field has

@@ -84,16 +84,17 @@ bound_put x0 x1 x2 x3 x4 x5 x6 s b room from to w1 w2 w3 w4 w5 w6 =
     let upper = end_put x6 s upper_present_field upper_field b.upper f5 f6 in
     rw (f1, f2, lower, upper)
 
+-- a record with the same fields in other bytes is the same
+pub row_as : (xs ys : List ℕ) (s : ℕ) → ((i w : ℕ) → i + w ≤ record_bits → field ys (s + i) w ≡ field xs (s + i) w) → row_at ys s ≡ row_at xs s
+row_as xs ys s same =
+    let f1 = same 0 6 (omega arith) in
+    let f2 = same 6 6 (omega arith) in
+    let f3 = same 12 1 (omega arith) in
+    let f4 = same 13 1 (omega arith) in
+    let f5 = same 14 21 (omega arith) in
+    let f6 = same 35 21 (omega arith) in
+    rw (f1, f2, f3, f4, f5, f6)
+
 -- a record that lies before or behind a change is kept
 pub row_kept : (xs ys : List ℕ) (s e a : ℕ) → KeptOutside xs ys s e → (a + record_bits ≤ s) ⊎ (e ≤ a) → row_at ys a ≡ row_at xs a
-row_kept xs ys s e a h o =
-    let f1 = one 0 6 (omega arith) in
-    let f2 = one 6 6 (omega arith) in
-    let f3 = one 12 1 (omega arith) in
-    let f4 = one 13 1 (omega arith) in
-    let f5 = one 14 21 (omega arith) in
-    let f6 = one 35 21 (omega arith) in
-    rw (f1, f2, f3, f4, f5, f6)
-  where
-    one : (i w : ℕ) → i + w ≤ 56 → field ys (a + i) w ≡ field xs (a + i) w
-    one i w l = field_kept xs ys s e (a + i) w h (elim o [ inl p ↦ inl (omega arith) | inr p ↦ inr (omega arith) ])
+row_kept xs ys s e a h o = row_as xs ys a (λ i w l. field_kept xs ys s e (a + i) w h (elim o [ inl p ↦ inl (omega arith) | inr p ↦ inr (omega arith) ]))

@@ -15,6 +15,7 @@ use Rattle.card.specs.Layout.{header_start, header_bits, record_bits, steps_of, 
 use Rattle.card.specs.Records.{HasHeader, HasRecords}
 use Rattle.card.specs.Writing.{card_size, IsCardOf, WroteCard, write_refusal}
 use Rattle.std.proofs.lemmas.Option.{slice_get_within}
+use Rattle.card.proofs.Puts.{row_as}
 use Rattle.card.proofs.Rows.{bound_row_item}
 use Rattle.bounds.proofs.Reading.{readable_all}
 use Rattle.bounds.proofs.Within.{Within, within}
@@ -44,14 +45,7 @@ header_as xs ys n count same h = record {
 }
 
 row_take : (m : ℕ) (xs : List ℕ) (s : ℕ) → s + record_bits ≤ 8 * m → row_at (take m xs) s ≡ row_at xs s
-row_take m xs s l =
-    let f1 = field_take m xs (s + 0) 6 (omega arith) in
-    let f2 = field_take m xs (s + 6) 6 (omega arith) in
-    let f3 = field_take m xs (s + 12) 1 (omega arith) in
-    let f4 = field_take m xs (s + 13) 1 (omega arith) in
-    let f5 = field_take m xs (s + 14) 21 (omega arith) in
-    let f6 = field_take m xs (s + 35) 21 (omega arith) in
-    rw (f1, f2, f3, f4, f5, f6)
+row_take m xs s l = row_as xs (take m xs) s (λ i w k. field_take m xs (s + i) w (omega arith))
 
 -- the card at the front of bytes with its header and its records
 pub is_card : (m : Meaning) (ys : List ℕ) → Within m → card_size m ≤ length ys → first_spoiled 0 m.items ≡ None → HasHeader ys m.steps (length m.items) → HasRecords ys m.items → IsCardOf m (take (card_size m) ys)
