@@ -17,7 +17,7 @@ module _ {X : Type 0} (lt : X → X → Bool) where
     rest = refl;
     size = refl;
     same = refl;
-    holds = λ x. (λ m. inr m, λ s. elim s [ inl a ↦ absurd (none x a) | inr m ↦ m ]);
+    holds = λ x. (λ m. inr m, λ s. let out = none x in grind arith);
     strictly = λ up _. up;
   }
 
@@ -30,16 +30,7 @@ module _ {X : Type 0} (lt : X → X → Bool) where
     rest = h.rest ∙ rest_onward q.len r.len q.slots.now p.slots.now h.least g.rest;
     size = h.size ∙ g.size;
     same = h.same ∙ g.same;
-    holds = λ x. (
-      λ in_r. elim ((h.holds x).0 in_r) [
-        | inl second ↦ inl ((parts x).1 (inr second))
-        | inr in_q ↦ elim ((g.holds x).0 in_q) [ inl first ↦ inl ((parts x).1 (inl first)) | inr in_p ↦ inr in_p ]
-      ],
-      λ s. elim s [
-        | inl added ↦ elim ((parts x).0 added) [ inl first ↦ (h.holds x).1 (inr ((g.holds x).1 (inl first))) | inr second ↦ (h.holds x).1 (inl second) ]
-        | inr in_p ↦ (h.holds x).1 (inr ((g.holds x).1 (inr in_p)))
-      ],
-    );
+    holds = λ x. let a = h.holds x in let b = g.holds x in let c = parts x in (λ in_r. grind arith, λ s. grind arith);
     strictly = λ up new.
         h.strictly (g.strictly up (λ x first. new x ((parts x).1 (inl first))))
         (λ x second in_q. elim ((g.holds x).0 in_q) [ inl first ↦ once x first second | inr in_p ↦ new x ((parts x).1 (inr second)) in_p ]);
@@ -53,10 +44,7 @@ module _ {X : Type 0} (lt : X → X → Bool) where
     rest = g.rest;
     size = g.size;
     same = g.same;
-    holds = λ x. (
-      λ m. elim ((g.holds x).0 m) [ inl a ↦ inl ((same x).1 a) | inr old ↦ inr old ],
-      λ s. elim s [ inl a ↦ (g.holds x).1 (inl ((same x).0 a)) | inr old ↦ (g.holds x).1 (inr old) ],
-    );
+    holds = λ x. let a = g.holds x in let b = same x in (λ m. grind arith, λ s. grind arith);
     strictly = λ up new. g.strictly up (λ x a. new x ((same x).1 a));
   }
 
@@ -69,10 +57,7 @@ module _ {X : Type 0} (lt : X → X → Bool) where
       let none : held p ≡ [] = ap (λ m. take m p.slots.now) empty in
       let outside : (x : X) → Memᴰ x (held p) → ⊥ = λ x m. Memᴰ.not-nil (subst (Memᴰ x) none m) in (
         g.strictly (subst (Strictly lt) (sym none) tt) (λ x _. outside x),
-        λ x. (
-          λ m. elim ((g.holds x).0 m) [ inl added ↦ added | inr old ↦ absurd (outside x old) ],
-          λ added. (g.holds x).1 (inl added),
-        ),
+        λ x. let a = g.holds x in let b = outside x in (λ m. grind arith, λ added. grind arith),
       )
 
   -- what a push ensures, where there is room
