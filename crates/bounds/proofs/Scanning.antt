@@ -1,9 +1,11 @@
 -- An item that is taken from a source's list, and a scan for the first spoiled one.
-use Rattle.std.proofs.Common.{◌≡◌, ℕ, ◌+◌, List, [], ◌∷◌, Some, None, Ok, Err, Result, refl, ap, arith}
+use Rattle.std.proofs.Common.{◌≡◌, ℕ, zero, suc, ◌+◌, List, [], ◌∷◌, take, drop, Some, None, Ok, Err, Result, refl, ap, subst, arith}
 use Rattle.std.specs.Result.{result_ok}
 use Rattle.bounds.specs.declared.item.NoSuchPlace.{NoSuchPlace}
 use Rattle.bounds.specs.Items.{Item}
-use Rattle.bounds.specs.Meaning.{read_at, refused}
+use Rattle.std.specs.List.{AllByRecursion}
+use Rattle.bounds.specs.Limits.{most_items}
+use Rattle.bounds.specs.Meaning.{read_at, refused, Lawful, Below}
 use Rattle.bounds.specs.Spoiled.{readable, first_spoiled}
 use Rattle.bounds.specs.Unread.{unread}
 use Rattle.bounds.proofs.Reading.{read_found, read_end}
@@ -26,3 +28,19 @@ taken_none xs i h = read_end xs i refused (none_given (read_at xs i) h)
 -- what is left from i on gives the answer
 abbrev pub Scanned : List Item → ℕ → Type 0
 Scanned xs i = first_spoiled i (unread xs i) ≡ first_spoiled 0 (readable xs)
+
+-- what is taken is lawful
+
+all_take : {X : Type 0} (P : X → Type 0) (n : ℕ) (xs : List X) → AllByRecursion P xs → AllByRecursion P (take n xs)
+all_take P zero xs a = tt
+all_take P (suc n) [] a = tt
+all_take P (suc n) (x ∷ xs) a = (a.0, all_take P n xs a.1)
+
+all_drop : {X : Type 0} (P : X → Type 0) (i : ℕ) (xs : List X) → AllByRecursion P xs → AllByRecursion P (drop i xs)
+all_drop P zero xs a = a
+all_drop P (suc i) [] a = tt
+all_drop P (suc i) (x ∷ xs) a = all_drop P i xs a.1
+
+pub taken_below : (n : ℕ) (xs : List Item) (i : ℕ) (x : Item) (more : List Item) → Lawful n xs → unread xs i ≡ x ∷ more → Below n x
+unfolding readable
+taken_below n xs i x more w e = (subst (AllByRecursion (Below n)) e (all_drop (Below n) i (take most_items xs) (all_take (Below n) most_items xs w.each))).0

@@ -22,10 +22,7 @@ impl Grid<'_> {
         ensures rest { Refilled self.old self.new }
     {
         self.unbind();
-        for place in 0..source.count() as usize {
-            let Ok(item) = source.item(place) else {
-                return;
-            };
+        for (_, item) in source.items() {
             if let Ok(bound) = item {
                 self.apply(&bound);
             }
