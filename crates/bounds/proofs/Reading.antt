@@ -27,7 +27,7 @@ drop_at_none [] (suc i) e = refl
 drop_at_none (x ∷ xs) zero e = let z : ◌≡◌ {A = ℕ} 0 1 = cc in absurd (omega arith)
 drop_at_none (x ∷ xs) (suc i) e = drop_at_none xs i e
 
-nth_take : {X : Type 0} (n : ℕ) (xs : List X) (i : ℕ) → i < n → slice_get (take n xs) i ≡ slice_get xs i
+pub nth_take : {X : Type 0} (n : ℕ) (xs : List X) (i : ℕ) → i < n → slice_get (take n xs) i ≡ slice_get xs i
 nth_take zero xs i h = absurd (omega arith)
 nth_take (suc n) [] i h = refl
 nth_take (suc n) (x ∷ xs) zero h = refl

@@ -50,7 +50,7 @@ rows_lawful n few rows = record {
 }
 
 -- a bound among fewer steps is one among more
-below_more : (m n : ℕ) → m ≤ n → (x : Item) → Below m x → Below n x
+pub below_more : (m n : ℕ) → m ≤ n → (x : Item) → Below m x → Below n x
 below_more m n h (Ok b) k = (omega (arith, k.0), omega (arith, k.1))
 below_more m n h (Err f) k = tt
 

@@ -24,17 +24,20 @@ pub filling_none : (items : List Item) (xs : List ℕ) → Filling items xs xs 0
 filling_none items xs = record { kept = kept_none xs header_bits (header_bits + record_bits * 0); records = λ j b l _. absurd (omega arith) }
 
 -- one record more
-pub filling_more : (items : List Item) (xs ys zs : List ℕ) (k : ℕ) → k < most_items → Filling items xs ys k
+pub filling_more : (items : List Item) (xs ys zs : List ℕ) (k : ℕ) (x : Item) → slice_get items k ≡ Some x → Filling items xs ys k
     → KeptOutside ys zs (header_bits + record_bits * k) (header_bits + record_bits * k + record_bits)
-    → ((b : Bound) → Ok (Ok b) ≡ read_at items k → row_at zs (header_bits + record_bits * k) ≡ bound_row b)
+    → ((b : Bound) → x ≡ Ok b → row_at zs (header_bits + record_bits * k) ≡ bound_row b)
     → Filling items xs zs (k + 1)
-filling_more items xs ys zs k l h w r = record {
+filling_more items xs ys zs k x at h w r = record {
   kept = kept_within xs ys zs header_bits (header_bits + record_bits * k) (header_bits + record_bits * k) (header_bits + record_bits * k + record_bits) header_bits (header_bits + record_bits * (k + 1)) (omega arith) (omega arith) (omega arith) (omega arith) h.kept w;
   records = λ j b a e. elim (cases_eq j k) [
-    | inl f ↦ ap (λ i. row_at zs (header_bits + record_bits * i)) f ∙ r b (sym (read_below items k l ∙ ap (λ o. ok_or o refused) (ap (slice_get items) (sym f) ∙ e)))
+    | inl f ↦ ap (λ i. row_at zs (header_bits + record_bits * i)) f ∙ r b (same (sym at ∙ ap (slice_get items) (sym f) ∙ e))
     | inr f ↦ row_kept ys zs (header_bits + record_bits * k) (header_bits + record_bits * k + record_bits) (header_bits + record_bits * j) w (inl (omega arith)) ∙ h.records j b (omega arith) e
   ];
 }
+  where
+    same : {y z : Item} → Some y ≡ Some z → y ≡ z
+    same h = cc
 
 -- all of them
 pub filling_all : (items : List Item) (xs ys : List ℕ) (k : ℕ) → k ≡ length items → Filling items xs ys k → HasRecords ys items

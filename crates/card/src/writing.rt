@@ -2,7 +2,7 @@
 ghost use Rattle.std.specs.Prelude.{◌≡◌, ◌+◌, ◌*◌, ◌^◌, ◌<◌, ◌≤◌, length, Some, None, Ok, MatchResult};
 ghost use Rattle.bits.specs.Wrote.{KeptOutside};
 ghost use Rattle.bounds.specs.Limits.{most_items, most_steps};
-ghost use Rattle.bounds.specs.Meaning.{read_at};
+ghost use Rattle.bounds.specs.Meaning.{Below};
 ghost use Rattle.bounds.specs.declared.bound.Bound.{Bound};
 ghost use Rattle.card.specs.Layout.{header_bits, header_bytes, header_start, record_bits, row_at};
 ghost use Rattle.card.specs.Records.{HasHeader, HasRecords, bound_row};
@@ -12,7 +12,7 @@ ghost use Rattle.card.specs.Writing.{WroteCard, card_size, write_refusal};
 use crate::layout::{COUNT, EDITION, EDITION_NUMBER, HEADER_BYTES, RECORD_BYTES, SPARE, STEPS};
 use crate::part::Part;
 use crate::refusal::WriteRefusal;
-use bounds::{Source, beyond_limits, first_spoiled};
+use bounds::{Item, Source, beyond_limits, first_spoiled};
 
 /// Writes a source as a card, and answers how many bytes that took. Refuses beyond the limits, then without the room, then for the first spoiled item; then `out` stays as it was.
 #[tactic(auto, using(crate::proofs::Tests::refused_spoiled))]
@@ -31,34 +31,33 @@ pub fn write_card<S: Source>(source: &S, out: &mut [u8]) -> Result<usize, WriteR
         return Err(WriteRefusal::Spoiled(item));
     }
     put_header(out, source.steps(), count);
-    put_records(source, count, out);
+    put_records(source, out);
     Ok(size)
 }
 
 // Writes the record of each bound of the list.
 #[tactic(auto, using(crate::proofs::Filling::filling_none, crate::proofs::Filling::filling_all, crate::proofs::Filling::filling_kept))]
-fn put_records<S: Source>(source: &S, count: u16, out: &mut [u8])
-    requires count { count ≡ length (S.meaning source.now).items }
-    requires few { count ≤ most_items }
+fn put_records<S: Source>(source: &S, out: &mut [u8])
+    requires few { length (S.meaning source.now).items ≤ most_items }
     requires steps { (S.meaning source.now).steps ≤ most_steps }
-    requires room { header_bits + record_bits * count ≤ 8 * length out.old }
-    ensures kept { KeptOutside out.old out.new header_bits (header_bits + record_bits * count) }
+    requires room { header_bits + record_bits * length (S.meaning source.now).items ≤ 8 * length out.old }
+    ensures kept { KeptOutside out.old out.new header_bits (header_bits + record_bits * length (S.meaning source.now).items) }
     ensures records { HasRecords out.new (S.meaning source.now).items }
 {
-    for place in 0..count {
-        put_record(source, place as usize, out);
+    for (place, item) in source.items() {
+        put_record(out, place, item);
     }
 }
 
-// Writes the record of the bound at a place, if a bound stands there.
-fn put_record<S: Source>(source: &S, place: usize, out: &mut [u8])
+// Writes the record of the item at a place, if it is a bound.
+fn put_record(out: &mut [u8], place: usize, item: Item)
     requires few { place < most_items }
-    requires steps { (S.meaning source.now).steps ≤ most_steps }
+    requires steps { Below most_steps item }
     requires room { header_bits + record_bits * place + record_bits ≤ 8 * length out.old }
     ensures kept { KeptOutside out.old out.new (header_bits + record_bits * place) (header_bits + record_bits * place + record_bits) }
-    ensures holds { (b : Bound) → Ok (Ok b) ≡ read_at (S.meaning source.now).items place → row_at out.new (header_bits + record_bits * place) ≡ bound_row b }
+    ensures holds { (b : Bound) → item ≡ Ok b → row_at out.new (header_bits + record_bits * place) ≡ bound_row b }
 {
-    if let Ok(Ok(bound)) = source.item(place) {
+    if let Ok(bound) = item {
         Part::record(out, place).put_bound(&bound);
     }
 }

@@ -2,7 +2,7 @@ use Rattle.std.proofs.Common.{◌≡◌, ℕ, ◌∷◌, Ok, refl, sym, ap, ◌�
 use Rattle.bounds.specs.Meaning.{Below}
 use Rattle.bounds.specs.Timetables.{Keeps, KeepsBound}
 use Rattle.bounds.specs.Unread.{unread}
-use Rattle.bounds.proofs.Scanning.{taken_below}
+use Rattle.bounds.proofs.Scanning.{taken_below, taken_same}
 use Rattle.network.specs.Gaps.{Narrowed}
 use Rattle.network.specs.Grid.{Rough, entry_at, unbounded}
 use Rattle.network.proofs.Narrowing.{left_first, left_more, left_none}
@@ -15,7 +15,7 @@ apply-requires g c =
     let m = g.S.Source.meaning c.args.source.now in
     let i = c.loop-item.item-iterator.place in
     let j = c.next.new.self.place in
-    let taken : unread m.items i ≡ c.in-Some.item ∷ unread m.items j = subst (λ s. unread (g.S.Source.meaning s).items i ≡ c.in-Some.item ∷ unread (g.S.Source.meaning s).items j) far.source c.in-Some.ensures.steps.1.1 in
+    let taken = taken_same (λ s. (g.S.Source.meaning s).items) _ _ i j c.in-Some.item far.source c.in-Some.ensures.steps.1.1 in
     let below : Below m.steps (Ok c.in-Ok.bound) = subst (Below m.steps) c.in-Ok.is (taken_below m.steps m.items i _ _ m.law taken) in
     record {
       from = omega (arith, below.0, c.requires, far.rest.rows);
@@ -30,7 +30,7 @@ loop-item-preserved-in-Ok g c =
     let m = g.S.Source.meaning c.args.source.now in
     let i = c.loop-item.item-iterator.place in
     let j = c.next.new.self.place in
-    let taken : unread m.items i ≡ c.in-Some.item ∷ unread m.items j = subst (λ s. unread (g.S.Source.meaning s).items i ≡ c.in-Some.item ∷ unread (g.S.Source.meaning s).items j) far.source c.in-Some.ensures.steps.1.1 in
+    let taken = taken_same (λ s. (g.S.Source.meaning s).items) _ _ i j c.in-Some.item far.source c.in-Some.ensures.steps.1.1 in
     let xs = c.loop-item.self.cells.now in
     let ys = c.apply.new.self.cells.now in
     let narrows : Narrowed n (entry_at n xs) (entry_at n ys) (λ t. KeepsBound t c.in-Ok.bound) = subst (λ (m : ℕ). Narrowed m (entry_at m xs) (entry_at m ys) (λ t. KeepsBound t c.in-Ok.bound)) far.rest.rows c.apply.ensures.narrowed in
@@ -50,7 +50,7 @@ loop-item-preserved g c =
     let m = g.S.Source.meaning c.args.source.now in
     let i = c.loop-item.item-iterator.place in
     let j = c.next.new.self.place in
-    let taken : unread m.items i ≡ c.in-Some.item ∷ unread m.items j = subst (λ s. unread (g.S.Source.meaning s).items i ≡ c.in-Some.item ∷ unread (g.S.Source.meaning s).items j) far.source c.in-Some.ensures.steps.1.1 in
+    let taken = taken_same (λ s. (g.S.Source.meaning s).items) _ _ i j c.in-Some.item far.source c.in-Some.ensures.steps.1.1 in
     let xs = c.loop-item.self.cells.now in
     let none : Narrowed n (entry_at n xs) (entry_at n xs) (λ t. Keeps t c.in-Some.item) = simp c.in_default.is (λ t. (λ fits. (fits, tt), λ both. both.0)) in
     record {
