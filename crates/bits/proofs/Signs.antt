@@ -92,5 +92,5 @@ pow_signed w l = pow_mono l
 pub field_stands : (xs : List ℕ) (s w : ℕ) (z : ℤ) → z ≡ signed w (field xs s w) → StandsFor w (field xs s w) z
 field_stands xs s w z e = subst (StandsFor w (field xs s w)) (sym e) (signed_stands w (field xs s w) (field_lt xs s w))
 
--- the two halves as the code tells them apart
-pub ruleset halves = (ints, one_shl, pow_signed, signed_low, signed_high)
+-- the lower half as the code tells it apart
+pub ruleset lower_half = (ints, one_shl, pow_signed, signed_low)

@@ -166,5 +166,5 @@ writing_all xs ys s w v i e h = record {
   whole = λ room. field_of_bits ys s w v (λ j l. h.each j (omega arith) (omega arith));
 }
 
--- a field, from its first bit to its last
-pub ruleset bit_by_bit = (writing_none, writing_more, writing_all)
+-- before the first bit and after the last
+pub ruleset bit_by_bit = (writing_none, writing_all)

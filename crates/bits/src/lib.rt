@@ -55,7 +55,7 @@ fn read_bit(bytes: &[u8], at: usize) -> u8
 }
 
 // The number that `width` bits with the value `bits` stand for in two's complement.
-#[tactic(auto, using(crate::proofs::Signs::halves))]
+#[tactic(auto, using(crate::proofs::Signs::lower_half))]
 fn sign_extended(bits: u64, width: u32) -> i32
     requires { (bits < 2 ^ width) × (width ≤ most_signed_bits) }
     ensures { result ≡ signed width bits }

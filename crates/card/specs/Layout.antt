@@ -74,7 +74,7 @@ header_bytes = header_bits / 8
 abbrev pub record_bytes : ℕ
 record_bytes = record_bits / 8
 
--- a field of at most so many bits, whose place the 32 bits of a bit's number can hold
+-- a field of at most so many bits that begins below bit 2 ^ 31 of its part
 abbrev pub Placed : ℕ → Field → Type 0
 Placed most f = (f.start < 2 ^ 31) × (f.width ≤ most)
 

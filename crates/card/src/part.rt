@@ -1,10 +1,10 @@
 // A part of a card, its header or one of its records: it begins at a bit of bytes.
 ghost use Rattle.std.specs.Prelude.{◌≡◌, ℕ, ◌+◌, ◌*◌, ◌^◌, ◌<◌, ◌≤◌, List, length, pos, unwrap_or};
+ghost use Rattle.std.specs.Option.{option_len};
 ghost use Rattle.bits.specs.Limits.{most_bits, most_signed_bits};
 ghost use Rattle.bits.specs.Signed.{unsigned};
 ghost use Rattle.bits.specs.Wrote.{KeptOutside, Wrote};
 ghost use Rattle.bounds.specs.Limits.{most_items, most_steps};
-ghost use Rattle.std.specs.Option.{option_len};
 ghost use Rattle.card.specs.Records.{bound_row};
 ghost use Rattle.card.specs.Layout.{
   Placed,
@@ -32,7 +32,7 @@ use bounds::{Bound, LooseEnd, Row};
 pub(crate) struct Part<B> {
     bytes: B,
     start: u32,
-    // its fields begin at a bit that 32 bits can name
+    // each of its fields begins at a bit that a u32 can number
     ghost near: { start < 2 ^ 31 },
 }
 
@@ -147,6 +147,7 @@ impl Part<&mut [u8]> {
     {
         write_signed(self.bytes, self.start + field.start, field.width, value);
     }
+
     // Writes one end: its mark, and its value or 0.
     fn put_end(&mut self, mark: Field, field: Field, end: Option<i32>)
         requires { Placed most_bits mark × Placed most_signed_bits field }

@@ -51,7 +51,7 @@ impl<'a> Source for Card<'a> {
         Part::header(self.bytes).count().min(MOST_ITEMS + 1)
     }
 
-    #[tactic(auto, using(crate::proofs::Listing::read_item, crate::proofs::Listing::read_no_item))]
+    #[tactic(auto, using(crate::proofs::Listing::read_no_item))]
     fn item(&self, place: usize) -> Result<Item, NoSuchPlace> {
         let count = Part::header(self.bytes).count();
         if place < MOST_ITEMS as usize && place < count as usize {
