@@ -4,16 +4,15 @@ use lib.ListN.{length-map, length-replicate}
 use Rattle.std.proofs.lemmas.List.Sums.{count_by-le-length, sum_by_more}
 use Rattle.std.proofs.lemmas.List.{get_or-set_same, get_or-set_other, get_or_past}
 use Rattle.std.proofs.lemmas.Bool.{cases_eq, cases_lt, eq-eqb, ne_eqb, cond-true, cond-false}
-use Rattle.bounds.specs.Limits.{horizon, most_steps}
+use Rattle.bounds.specs.Limits.{most_steps}
 use Rattle.network.specs.declared.tables.GroupEntry.{GroupEntry}
 use Rattle.network.specs.declared.tables.Kind.TheVariants.{Most, Least}
 use Rattle.network.specs.declared.tables.Link.{Link}
-use Rattle.pacer.specs.declared.group.Group.TheVariants.{Open}
 use Rattle.pacer.specs.declared.index.Span.{Span}
 use Rattle.pacer.specs.declared.state.State.{State}
 use Rattle.pacer.specs.declared.tables.Tables.{Tables}
 use Rattle.pacer.specs.Fixing.{no_link}
-use Rattle.pacer.specs.Groups.{is_open, no_group}
+use Rattle.pacer.specs.Groups.{is_open}
 use Rattle.pacer.specs.Index.{is_least, least_onto, holds_back, Indexed, SpansSoFar, WaitsSoFar}
 use Rattle.pacer.specs.Opening.{Begins, EntriesFit, LinksFit, fresh}
 use Rattle.pacer.specs.States.{group_at, waits_at}

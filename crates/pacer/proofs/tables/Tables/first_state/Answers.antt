@@ -1,4 +1,4 @@
-use Rattle.std.proofs.Common.{◌≡◌, ℕ, ◌<◌, List, length, map, get_or, None, count_by, sym, ap, ◌∙◌, arith, rules}
+use Rattle.std.proofs.Common.{◌≡◌, ℕ, ◌<◌, length, map, get_or, None, count_by, sym, ap, ◌∙◌, arith, rules}
 use Rattle.std.proofs.lemmas.List.{same_lists, get_or-map, take_all}
 use lib.ListN.{length-map}
 use Rattle.bounds.specs.Limits.{horizon, most_steps}
