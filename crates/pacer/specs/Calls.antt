@@ -1,5 +1,5 @@
 -- What a taken call leaves, and what a look answers.
-use Rattle.std.specs.Prelude.{ℕ, cond, Some, None, Ok, Err, Option, Result, nat_lt}
+use Rattle.std.specs.Prelude.{ℕ, if◌then◌else◌, Some, None, Ok, Err, Option, Result, nat_lt}
 use Rattle.network.specs.Groups.{group_at as entry_of}
 use Rattle.pacer.specs.declared.group.Call.TheVariants.{Look}
 use Rattle.pacer.specs.declared.group.Window.{Window}
@@ -15,7 +15,7 @@ use Rattle.pacer.specs.States.{cue_at, with_cue, with_now}
 abbrev pub settled : Tables → State → ℕ → ℕ → State
 settled t s step time =
     let leader = (entry_of t.entries.now step).leader in
-    cond (is_open (group_of t s step)) (fixed leader time (own_links t leader) s) s
+    if is_open (group_of t s step) then fixed leader time (own_links t leader) s else s
 
 -- the state once a cue is taken
 abbrev pub cued : Tables → State → ℕ → ℕ → State
@@ -32,4 +32,4 @@ seen None window = window
 
 -- the answer to a look
 abbrev pub look_answer : Tables → State → ℕ → Result Window NoSuchStep
-look_answer t s step = cond (nat_lt step t.steps) (Ok (seen (cue_at s step) (window_of t s step Look))) (Err (record {}))
+look_answer t s step = if nat_lt step t.steps then Ok (seen (cue_at s step) (window_of t s step Look)) else Err (record {})

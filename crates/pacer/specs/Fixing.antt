@@ -1,5 +1,5 @@
 -- What fixing a group does: each of its own links narrows the window of its target.
-use Rattle.std.specs.Prelude.{ℕ, ◌+◌, cond, List, fold, take, drop, ◌==◌, nat_lt, slice_index_or}
+use Rattle.std.specs.Prelude.{ℕ, ◌+◌, if◌then◌else◌, List, fold, take, drop, ◌==◌, nat_lt, slice_index_or}
 use Rattle.network.specs.declared.tables.Kind.{Kind}
 use Rattle.network.specs.declared.tables.Kind.TheVariants.{Most, Least}
 use Rattle.network.specs.declared.tables.Link.{Link}
@@ -25,7 +25,7 @@ after_link time k s = one_wait_less k.kind k.target (with_group s k.target (narr
 
 -- the state after all links of a list with this trigger, from the first to the last
 abbrev pub applied : ℕ → ℕ → List Link → State → State
-applied leader time ks s = fold (λ s k. cond (k.trigger == leader) (after_link time k s) s) s ks
+applied leader time ks s = fold (λ s k. if k.trigger == leader then after_link time k s else s) s ks
 
 -- the span of a leader
 abbrev pub span_at : List Span → ℕ → Span
@@ -33,7 +33,7 @@ span_at spans leader = slice_index_or spans leader (record { start = 0; end = 0 
 
 -- where a span starts, or the place where there is nothing in it yet
 abbrev pub first_of : Span → ℕ → ℕ
-first_of span place = cond (nat_lt span.start span.end) span.start place
+first_of span place = if nat_lt span.start span.end then span.start else place
 
 -- the links of a span
 abbrev pub spanned : Span → List Link → List Link

@@ -12,6 +12,7 @@ use Rattle.pacer.specs.declared.group.Window.{Window}
 abbrev pub no_group : Group
 no_group = Open 0 0
 
+-- a group has no time yet
 abbrev pub is_open : Group → Bool
 is_open (Open lower upper) = true
 is_open (Fixed time) = false

@@ -1,5 +1,5 @@
 -- The index of a run: where the links of each trigger stand, and for how many open groups each group waits.
-use Rattle.std.specs.Prelude.{◌≡◌, ℕ, ◌<◌, ◌≤◌, Bool, true, false, ◌&&◌, ◌↔◌, List, length, get_or, count_by, take, ◌==◌, slice_index, slice_index_or}
+use Rattle.std.specs.Prelude.{◌≡◌, ℕ, ◌<◌, ◌≤◌, Bool, true, false, ◌&&◌, ◌↔◌, List, length, count_by, take, ◌==◌, slice_index, slice_index_or}
 use Rattle.bounds.specs.Limits.{most_steps}
 use Rattle.network.specs.Groups.{group_at as entry_of}
 use Rattle.network.specs.declared.tables.Kind.{Kind}
@@ -12,6 +12,7 @@ use Rattle.pacer.specs.Fixing.{fixed, no_link, own_links, span_at}
 use Rattle.pacer.specs.Groups.{is_open}
 use Rattle.pacer.specs.States.{group_at, waits_at}
 
+-- a link that says at least
 abbrev pub is_least : Kind → Bool
 is_least Most = false
 is_least Least = true
@@ -26,8 +27,8 @@ holds_back s leader k = least_onto leader k && is_open (group_at s k.trigger)
 
 -- the link at a place stands in the span of its trigger
 pub record Covered (links : List Link) (spans : List Span) (place : ℕ) : Type 0 where
-  pub from : (span_at spans (get_or links place no_link).trigger).start ≤ place
-  pub to : place < (span_at spans (get_or links place no_link).trigger).end
+  pub from : (span_at spans (slice_index_or links place no_link).trigger).start ≤ place
+  pub to : place < (span_at spans (slice_index_or links place no_link).trigger).end
 
 -- the index is right: each link stands in the span of its trigger, and each group has the count of the least links onto it whose triggers' groups are open
 pub record Indexed (t : Tables) (s : State) : Type 0 where
@@ -49,7 +50,7 @@ pub record Plain (t : Tables) (s : State) : Type 0 where
 pub record SpansSoFar (links : List Link) (spans : List Span) (place : ℕ) : Type 0 where
   pub sized : length spans ≡ most_steps
   pub ends : (leader : ℕ) → (span_at spans leader).end ≤ place
-  pub covers : (before : ℕ) → before < place → (get_or links before no_link).trigger < most_steps → Covered links spans before
+  pub covers : (before : ℕ) → before < place → (slice_index_or links before no_link).trigger < most_steps → Covered links spans before
 
 -- and the least links among them are counted
 pub record WaitsSoFar (links : List Link) (waits : List ℕ) (place : ℕ) : Type 0 where

@@ -24,6 +24,7 @@ pub record EntryFits (n : ℕ) (es : List GroupEntry) (step : ℕ) : Type 0 wher
   pub leads : LeadsItself n es (entry_of es step).leader
   pub offset : (entry_of es step).offset ≤ horizon
 
+-- each of the n steps fits
 abbrev pub EntriesFit : ℕ → List GroupEntry → Type 0
 EntriesFit n es = (step : ℕ) → step < n → EntryFits n es step
 
@@ -33,6 +34,7 @@ pub record LinkFits (n : ℕ) (es : List GroupEntry) (k : Link) : Type 0 where
   pub target : LeadsItself n es k.target
   pub seconds : k.seconds ≤ horizon
 
+-- and so does each link
 abbrev pub LinksFit : ℕ → List GroupEntry → List Link → Type 0
 LinksFit n es ks = (place : ℕ) → place < length ks → LinkFits n es (slice_index_or ks place no_link)
 

@@ -15,8 +15,11 @@ impl Run<'_> {
     /// Records that a step starts at a time. Its group, if it is open, is then fixed, and its links narrow other windows.
     #[tactic(auto, using(crate::proofs::Indexing::indexed_plain))]
     pub fn cue(&mut self, step: u16, time: u32) -> Result<(), CueRefusal>
-        ensures answer { CueAnswer self.old.tables self.old.state step time (refused_with cue_number result) }
-        ensures state { MatchResult result (λ _. self.new.state ≡ cued self.old.tables self.old.state step time) (λ _. self.new.state ≡ self.old.state) }
+        ensures answer { CueAnswer self.old.tables self.old.state step time
+            (refused_with cue_number result) }
+        ensures state { MatchResult result
+            (λ _. self.new.state ≡ cued self.old.tables self.old.state step time)
+            (λ _. self.new.state ≡ self.old.state) }
         ensures kept { self.new.tables ≡ self.old.tables }
         ensures plain { Plain self.old.tables self.old.state }
     {
@@ -30,7 +33,9 @@ impl Run<'_> {
     #[tactic(auto, using(crate::proofs::Indexing::indexed_plain))]
     pub fn wait(&mut self, time: u32) -> Result<(), WaitRefusal>
         ensures answer { WaitAnswer self.old.tables self.old.state time (refused_with wait_number result) }
-        ensures state { MatchResult result (λ _. self.new.state ≡ waited self.old.state time) (λ _. self.new.state ≡ self.old.state) }
+        ensures state { MatchResult result
+            (λ _. self.new.state ≡ waited self.old.state time)
+            (λ _. self.new.state ≡ self.old.state) }
         ensures kept { self.new.tables ≡ self.old.tables }
         ensures plain { Plain self.old.tables self.old.state }
     {

@@ -35,7 +35,9 @@ impl Tables<'_> {
     // Pushes the entry of one step.
     fn push_due(&self, state: &State, step: u8, queue: &mut Queue<'_, DueEntry>) -> Result<(), Full>
         requires { queue.old.len < length queue.old.slots.now }
-        ensures gained { MatchResult result (λ _. Gained due_before 1 (λ x. x ≡ due_of self.now state.entry.now step) queue.old queue.new) (λ _. ⊥) }
+        ensures gained { MatchResult result
+            (λ _. Gained due_before 1 (λ x. x ≡ due_of self.now state.entry.now step) queue.old queue.new)
+            (λ _. ⊥) }
         ensures count { MatchResult result (λ _. queue.new.len ≡ queue.old.len + 1) (λ _. ⊥) }
     {
         queue.push(DueEntry {
