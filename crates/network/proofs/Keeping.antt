@@ -1,5 +1,5 @@
 -- Which links are kept between two leaders, and in which part of the table they stand.
-use Rattle.std.proofs.Common.{◌≡◌, ℕ, ◌+◌, ◌<◌, ◌≤◌, true, false, ◌⊎◌, ◌↔◌, List, ℤ, Some, None, Ok, Err, Option, Result, sym, refl, ap, ◌∙◌, subst, inl, inr, arith, MatchOption, MatchResult}
+use Rattle.std.proofs.Common.{◌≡◌, ℕ, ◌+◌, ◌<◌, ◌≤◌, true, false, ◌⊎◌, ◌↔◌, List, ℤ, Some, None, Ok, Err, Option, Result, sym, refl, ap, ◌∙◌, subst, inl, inr, arith, IsOkAnd, MatchOption, MatchResult}
 use Rattle.std.proofs.lemmas.Bool.{cases_eq, both_ways}
 use Rattle.network.specs.declared.tables.GroupEntry.{GroupEntry}
 use Rattle.network.specs.declared.tables.Kind.{Kind}
@@ -109,7 +109,7 @@ module _ (n : ℕ) (d : ℕ → ℕ → ℤ) (gs : List GroupEntry) (p q : ℕ) 
 
 -- a push of the link that there is
 pub gained_by_option : {A B : Type 0} (p q : Queue Link) (link : Option Link) (x : Link) (r : Result A B) → link ≡ Some x
-    → MatchResult r (λ _. Gained link_before 1 (λ y. y ≡ x) p q) (λ _. ⊥) → MatchResult r (λ _. Gained link_before (links_in link) (λ y. link ≡ Some y) p q) (λ _. ⊥)
+    → MatchResult r (λ _. Gained link_before 1 (λ y. y ≡ x) p q) (λ _. ⊥) → IsOkAnd r (λ _. Gained link_before (links_in link) (λ y. link ≡ Some y) p q)
 gained_by_option p q link x (Ok u) is gained =
     let P : Option Link → Type 0 = λ o. Gained link_before (links_in o) (λ y. o ≡ Some y) p q in
     subst P (sym is) (gained_as link_before 1 (λ y. y ≡ x) (λ y. Some x ≡ Some y) p q (λ y. (λ e. (let back : y ≡ x = cc in back), λ e. ap Some (sym e))) gained)

@@ -5,7 +5,6 @@ pub mod Lowering
 pub mod Starting
 pub mod Narrowing
 pub mod Counting
-pub mod Filling
 pub mod Grouping
 pub mod Keeping
 pub mod Compiling

@@ -8,7 +8,6 @@ pub mod Counting
 pub mod Groups
 pub mod Distances
 pub mod Links
-pub mod Filling
 pub mod Refusals
 pub mod Compiled
 pub mod Ordering

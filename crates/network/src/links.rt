@@ -1,9 +1,8 @@
 // The pruned table of links between the leaders of groups.
-ghost use Rattle.std.specs.Prelude.{◌≡◌, ◌+◌, ◌-◌, ◌*◌, ◌<◌, ◌≤◌, true, length, take, drop, Some, MatchBool, MatchOption, MatchResult, ◌≢◌};
+ghost use Rattle.std.specs.Prelude.{◌≡◌, ◌+◌, ◌-◌, ◌*◌, ◌<◌, ◌≤◌, true, length, take, drop, Some, MatchBool, IsOkAnd, MatchOption, ◌≢◌};
 ghost use Rattle.queue.specs.Growing.{Gained};
 ghost use Rattle.network.specs.Counting.{links_between, links_from, links_of_kind};
 ghost use Rattle.network.specs.Distances.{gaps, steps};
-ghost use Rattle.network.specs.Filling.{Grown};
 ghost use Rattle.network.specs.Groups.{is_leader};
 ghost use Rattle.network.specs.Order.{link_before};
 ghost use Rattle.network.specs.Links.{Dominated, KeptAs, KeptBetween, KeptFrom, LinkTable, NotKept, held, link_of};
@@ -16,9 +15,9 @@ impl Leaders<'_> {
     /// Writes the kept links in order to the front of `links`, and answers how many there are.
     pub(crate) fn find_links(&self, links: &mut [Link]) -> Result<usize, Full>
         requires { steps self.now * (steps self.now - 1) ≤ length links.old }
-        ensures links { MatchResult result (λ k. LinkTable (steps self.now) (gaps self.now) self.now.groups.now (take k links.new)) (λ _. ⊥) }
-        ensures count { MatchResult result (λ k. k ≤ steps self.now * (steps self.now - 1)) (λ _. ⊥) }
-        ensures behind { MatchResult result (λ k. drop k links.new ≡ drop k links.old) (λ _. ⊥) }
+        ensures links { IsOkAnd result (λ k. LinkTable (steps self.now) (gaps self.now) self.now.groups.now (take k links.new)) }
+        ensures count { IsOkAnd result (λ k. k ≤ steps self.now * (steps self.now - 1)) }
+        ensures behind { IsOkAnd result (λ k. drop k links.new ≡ drop k links.old) }
     {
         let mut queue = Queue::new(links);
         for trigger in 0..self.distances.n {
@@ -32,9 +31,9 @@ impl Leaders<'_> {
     // Pushes the kept links of one trigger.
     fn push_from(&self, trigger: usize, queue: &mut Queue<'_, Link>) -> Result<(), Full>
         requires inside { trigger < steps self.now }
+        requires leads { is_leader self.now.groups.now trigger ≡ true }
         requires slots { queue.old.len + links_from (steps self.now) (gaps self.now) trigger ≤ length queue.old.slots.now }
-        ensures grown { MatchResult result (λ _. Grown (links_from (steps self.now) (gaps self.now) trigger) queue.old queue.new) (λ _. ⊥) }
-        ensures gained { is_leader self.now.groups.now trigger ≡ true → MatchResult result (λ _. Gained link_before (links_from (steps self.now) (gaps self.now) trigger) (KeptFrom (steps self.now) (gaps self.now) self.now.groups.now trigger (steps self.now)) queue.old queue.new) (λ _. ⊥) }
+        ensures { IsOkAnd result (λ _. Gained link_before (links_from (steps self.now) (gaps self.now) trigger) (KeptFrom (steps self.now) (gaps self.now) self.now.groups.now trigger (steps self.now)) queue.old queue.new) }
     {
         for target in 0..self.distances.n {
             if target != trigger && self.leads(target) {
@@ -54,9 +53,10 @@ impl Leaders<'_> {
         requires trigger { trigger < steps self.now }
         requires target { target < steps self.now }
         requires apart { target ≢ trigger }
+        requires from_leader { is_leader self.now.groups.now trigger ≡ true }
+        requires to_leader { is_leader self.now.groups.now target ≡ true }
         requires slots { queue.old.len + links_between (gaps self.now) trigger target ≤ length queue.old.slots.now }
-        ensures grown { MatchResult result (λ _. Grown (links_between (gaps self.now) trigger target) queue.old queue.new) (λ _. ⊥) }
-        ensures gained { is_leader self.now.groups.now trigger ≡ true → is_leader self.now.groups.now target ≡ true → MatchResult result (λ _. Gained link_before (links_between (gaps self.now) trigger target) (KeptBetween (steps self.now) (gaps self.now) self.now.groups.now trigger target) queue.old queue.new) (λ _. ⊥) }
+        ensures { IsOkAnd result (λ _. Gained link_before (links_between (gaps self.now) trigger target) (KeptBetween (steps self.now) (gaps self.now) self.now.groups.now trigger target) queue.old queue.new) }
     {
         let most = self.kept_link(Kind::Most, trigger, target);
         push_kept(most, queue)?;
@@ -116,8 +116,7 @@ impl Leaders<'_> {
 // Pushes a link, if there is one.
 fn push_kept(link: Option<Link>, queue: &mut Queue<'_, Link>) -> Result<(), Full>
     requires { queue.old.len + held link ≤ length queue.old.slots.now }
-    ensures grown { MatchResult result (λ _. Grown (held link) queue.old queue.new) (λ _. ⊥) }
-    ensures gained { MatchResult result (λ _. Gained link_before (held link) (λ x. link ≡ Some x) queue.old queue.new) (λ _. ⊥) }
+    ensures { IsOkAnd result (λ _. Gained link_before (held link) (λ x. link ≡ Some x) queue.old queue.new) }
 {
     match link {
         Some(link) => queue.push(link),

@@ -12,24 +12,21 @@ use Rattle.network.proofs.leaders.Leaders.find_links.Goals.{then-leads+in_ok-pus
 pub loop-trigger-init : goal.loop-trigger-init
 loop-trigger-init c = gained_none link_before _ _ _ (λ x h. omega (arith, h.1))
 
-pub push_from-requires : goal.push_from-requires
-push_from-requires c =
+pub push_from-requires-clause-slots : goal.push_from-requires-clause-slots
+push_from-requires-clause-slots c =
     let d = gaps c.args.self.now in
     let f = links_from (steps c.args.self.now) d in
-    record {
-      inside = c.loop-trigger-test.true;
-      slots = omega (
-        arith,
-        c.loop-trigger.invariant.most,
-        c.loop-trigger.invariant.size,
-        c.new-queue.ensures.empty,
-        ap length c.new-queue.ensures.kept,
-        c.requires,
-        links_all d (steps c.args.self.now),
-        sum_more f c.loop-trigger.trigger,
-        sum_front f (c.loop-trigger.trigger + 1) (steps c.args.self.now) (omega arith),
-      );
-    }
+    omega (
+      arith,
+      c.loop-trigger.invariant.most,
+      c.loop-trigger.invariant.size,
+      c.new-queue.ensures.empty,
+      ap length c.new-queue.ensures.kept,
+      c.requires,
+      links_all d (steps c.args.self.now),
+      sum_more f c.loop-trigger.trigger,
+      sum_front f (c.loop-trigger.trigger + 1) (steps c.args.self.now) (omega arith),
+    )
 
 pub loop-trigger-preserved : goal.loop-trigger-preserved
 loop-trigger-preserved c =
@@ -40,7 +37,7 @@ loop-trigger-preserved c =
     let more = sum_more (links_from n d) k in
     elim c.if-leads.branch [
       | then-leads+in_ok-push_from w ↦
-          gained_same link_before _ _ _ _ _ w.queue-is (gained_more link_before _ _ _ _ _ _ _ _ _ (omega (arith, more)) (before_more n d gs k) (before_apart n d gs k) c.loop-trigger.invariant (w.in_ok-push_from.ensures.gained (sym w.if-leads.ensures)))
+          gained_same link_before _ _ _ _ _ w.queue-is (gained_more link_before _ _ _ _ _ _ _ _ _ (omega (arith, more)) (before_more n d gs k) (before_apart n d gs k) c.loop-trigger.invariant w.in_ok-push_from.ensures)
       | else-leads w ↦
           gained_same link_before _ _ _ _ _ w.queue-is
           (gained_more link_before _ 0 _ _ _ _ _ _ _ (omega (arith, more)) (before_more n d gs k) (before_apart n d gs k) c.loop-trigger.invariant (gained_none link_before 0 _ _ (before_skipped n d gs k (sym w.if-leads.ensures))))
