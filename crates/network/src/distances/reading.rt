@@ -8,6 +8,7 @@ use super::Distances;
 
 impl Distances<'_> {
     /// The distance from step `i` to step `j`.
+    #[tactic(auto, unfolding(crate::specs::Grid::entry_at))]
     pub(crate) fn at(&self, i: usize, j: usize) -> i32
         requires row { i < self.now.n }
         requires column { j < self.now.n }

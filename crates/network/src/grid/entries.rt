@@ -19,6 +19,8 @@ impl<'a> Grid<'a> {
     }
 
     /// The entry of row `i` and column `j`.
+    // `Distances` has the same read: a view that both share would be longer than the line.
+    #[tactic(auto, unfolding(crate::specs::Grid::entry_at))]
     pub(crate) fn at(&self, i: usize, j: usize) -> i32
         requires row { i < self.now.n }
         requires column { j < self.now.n }
