@@ -1,5 +1,5 @@
 -- The search for the leader of a group, and the table of groups as it is filled.
-use Rattle.std.proofs.Common.{◌≡◌, ℕ, ◌+◌, ◌<◌, ◌≤◌, cond, eqb, ◌↔◌, List, ◌++◌, length, set, ℤ, pos, ◌≤ℤ◌, ◌<ℤ◌, sym, refl, ap, ◌∙◌, inl, inr, arith}
+use Rattle.std.proofs.Common.{◌≡◌, ℕ, ◌+◌, ◌<◌, ◌≤◌, cond, eqb, ◌↔◌, List, ◌++◌, length, set, ℤ, pos, ◌≤ℤ◌, ◌<ℤ◌, sym, ap, ◌∙◌, inl, inr, arith}
 use Rattle.std.proofs.lemmas.List.{get_or-set_same, get_or-set_other, get_or_append_left}
 use Rattle.std.proofs.lemmas.Int.{ints}
 use Rattle.std.proofs.lemmas.Bool.{cases_eq}
@@ -16,26 +16,6 @@ pub record LeaderSoFar (n : ℕ) (d : ℕ → ℕ → ℤ) (step leader k : ℕ)
   pub lowest : (x : ℕ) → k ≤ x → x < n → Rigid d step x → d step x ≤ℤ d step leader → leader ≤ x
 
 module _ (n : ℕ) (d : ℕ → ℕ → ℤ) (closed : Closed n d) (step : ℕ) (step_in : step < n) where
-  pub leader_first : (k : ℕ) → n ≤ k → LeaderSoFar n d step step k
-  leader_first k l = record {
-    inside = step_in;
-    member = omega (arith, ints, closed.settled.diagonal step step_in);
-    earliest = λ x p q. absurd (omega arith);
-    lowest = λ x p q. absurd (omega arith);
-  }
-
-  -- the step k is as early a member: it leads
-  pub leader_new : (leader k : ℕ) → k < n → LeaderSoFar n d step leader (k + 1) → Rigid d step k → d step k ≤ℤ d step leader → LeaderSoFar n d step k k
-  leader_new leader k k_in far rigid early = record {
-    inside = k_in;
-    member = rigid;
-    earliest = λ x p q r. elim (cases_eq x k) [
-      | inl h ↦ omega (arith, ints, ap (d step) h)
-      | inr h ↦ omega (arith, ints, early, far.earliest x (omega arith) q r)
-    ];
-    lowest = λ x p q r e. p;
-  }
-
   -- the step k is no member, or comes after the leader: the leader stays
   pub leader_kept : (leader k : ℕ) → LeaderSoFar n d step leader (k + 1) → (Rigid d step k → d step leader <ℤ d step k) → LeaderSoFar n d step leader k
   leader_kept leader k far late = record {
@@ -94,9 +74,6 @@ offset_above n d step leader closed step_in leads = leads.earliest step step_in 
 pub record GroupsSoFar (n : ℕ) (d : ℕ → ℕ → ℤ) (gs : List GroupEntry) (count k : ℕ) : Type 0 where
   pub each : (i : ℕ) → i < k → Grouped n d gs i
   pub counted : count ≡ leaders gs k
-
-pub groups_first : (n : ℕ) (d : ℕ → ℕ → ℤ) (gs : List GroupEntry) → GroupsSoFar n d gs 0 0
-groups_first n d gs = record { each = λ i l. absurd (omega arith); counted = refl }
 
 pub groups_all : (n : ℕ) (d : ℕ → ℕ → ℤ) (gs : List GroupEntry) (count k : ℕ) → Closed n d → k ≡ n → GroupsSoFar n d gs count k → GroupTable n d gs count
 groups_all n d gs count k closed all far = record {

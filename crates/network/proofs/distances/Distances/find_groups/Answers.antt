@@ -4,16 +4,13 @@ use Rattle.std.proofs.lemmas.Slice.{drop-append-drop}
 use Rattle.std.proofs.lemmas.Int.{ints}
 use Rattle.std.proofs.lemmas.Bool.{eq-eqb, ne_eqb, cond-true, cond-false}
 use Rattle.network.specs.Distances.{distance}
-use Rattle.network.proofs.Grouping.{GroupsSoFar, groups_first, groups_more, groups_front, groups_all, offset_above}
+use Rattle.network.proofs.Grouping.{GroupsSoFar, groups_more, groups_front, groups_all, offset_above}
 use Rattle.network.proofs.distances.Distances.find_groups.Goals as goal
 use Rattle.network.proofs.distances.Distances.find_groups.Goals.{Start, then-leader-step, else-leader-step}
 
 -- as many entries are filled as there are steps
 long : (c : Start) → length (take c.args.self.now.n c.args.groups.now) ≡ c.args.self.now.n
 long c = length-take-le c.args.self.now.n c.args.groups.now c.requires
-
-pub loop-step-init : goal.loop-step-init
-loop-step-init c = record { few = omega arith; groups = groups_first _ _ _ }
 
 pub loop-step-preserved : goal.loop-step-preserved
 loop-step-preserved c =

@@ -1,4 +1,4 @@
-use Rattle.std.proofs.Common.{ℕ, neg_ℤ, sym, subst}
+use Rattle.std.proofs.Common.{ℕ, neg_ℤ, subst}
 use Rattle.std.specs.Option.{option_map}
 use Rattle.network.specs.Filled.{entries}
 use Rattle.network.specs.Gaps.{Capped, Narrowed}
@@ -6,9 +6,6 @@ use Rattle.network.specs.Grid.{Rough, entry_at}
 use Rattle.network.proofs.Narrowing.{bound_narrows}
 use Rattle.network.proofs.Refilling.{refilled_onward}
 use Rattle.network.proofs.grid.Grid.apply.Goals as goal
-
-pub cap-requires-2-clause-rough : goal.cap-requires-2-clause-rough
-cap-requires-2-clause-rough c = subst (λ (n : ℕ). Rough n (entry_at n c.cap.new.self.cells.now)) (sym c.cap.ensures.rest.rows) c.cap.ensures.rough
 
 pub returns : goal.returns
 returns c =

@@ -1,13 +1,10 @@
 use Rattle.std.proofs.Common.{◌≡◌, ℕ, pos, MatchBool, sym, subst, arith}
 use Rattle.network.proofs.Testing.{when_map}
-use Rattle.network.proofs.Narrowing.{closes_first, closes_more, closes_all, refuted_hopeless}
-use Rattle.network.proofs.Refilling.{refilled_none, refilled_onward}
+use Rattle.network.proofs.Narrowing.{closes_more, closes_all, refuted_hopeless}
+use Rattle.network.proofs.Refilling.{refilled_onward}
 use Rattle.network.specs.Grid.{Relaxed, Rough, Settled, entry_at}
 use Rattle.network.specs.Lines.{Refuted}
 use Rattle.network.proofs.grid.Grid.close.Goals as goal
-
-pub loop-k-init : goal.loop-k-init
-loop-k-init c = record { closes = closes_first _ _ c.requires; rest = refilled_none _ }
 
 pub relax-requires : goal.relax-requires
 relax-requires c =
