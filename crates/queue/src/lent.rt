@@ -15,6 +15,7 @@ pub struct Full;
 #[derive(Drop)]
 pub struct Queue<'a, T: Ordered> {
     slots: &'a mut [T],
+    // A length beside the slots: they are lent, and nothing is allocated here.
     len: usize,
 }
 
