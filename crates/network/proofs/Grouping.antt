@@ -16,6 +16,18 @@ pub record LeaderSoFar (n : ℕ) (d : ℕ → ℕ → ℤ) (step leader k : ℕ)
   pub lowest : (x : ℕ) → k ≤ x → x < n → Rigid d step x → d step x ≤ℤ d step leader → leader ≤ x
 
 module _ (n : ℕ) (d : ℕ → ℕ → ℤ) (closed : Closed n d) (step : ℕ) (step_in : step < n) where
+  -- the step k is as early a member: it leads
+  pub leader_new : (leader k : ℕ) → k < n → LeaderSoFar n d step leader (k + 1) → Rigid d step k → d step k ≤ℤ d step leader → LeaderSoFar n d step k k
+  leader_new leader k k_in far rigid early = record {
+    inside = k_in;
+    member = rigid;
+    earliest = λ x p q r. elim (cases_eq x k) [
+      | inl h ↦ omega (arith, ints, ap (d step) h)
+      | inr h ↦ omega (arith, ints, early, far.earliest x (omega arith) q r)
+    ];
+    lowest = λ x p q r e. p;
+  }
+
   -- the step k is no member, or comes after the leader: the leader stays
   pub leader_kept : (leader k : ℕ) → LeaderSoFar n d step leader (k + 1) → (Rigid d step k → d step leader <ℤ d step k) → LeaderSoFar n d step leader k
   leader_kept leader k far late = record {

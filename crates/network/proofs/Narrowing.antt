@@ -14,14 +14,6 @@ use Rattle.network.specs.Grid.{Lowered, Relaxed, Rough, Settled, unbounded}
 use Rattle.network.specs.Lines.{Refuted}
 use Rattle.network.proofs.Starting.{unbounded_cases, unbounded_start, unbounded_range}
 
--- tables with the same entries
-
-pub fits_same : (n : ℕ) (d e : ℕ → ℕ → ℤ) → ((i j : ℕ) → i < n → j < n → e i j ≡ d i j) → (t : ℕ → ℤ) → Fits n e t ↔ Fits n d t
-fits_same n d e same t = (
-  λ fits i j p q. omega (arith, ints, fits i j p q, same i j p q),
-  λ fits i j p q. omega (arith, ints, fits i j p q, same i j p q),
-)
-
 -- one entry lowered
 
 pub lowered_either : (n : ℕ) (d e : ℕ → ℕ → ℤ) (i j : ℕ) (v : ℤ) → Lowered n d e i j v → (a b : ℕ) → a < n → b < n → (e a b ≡ d a b) ⊎ ((a ≡ i) × (b ≡ j) × (e a b ≡ int_min (d a b) v))
@@ -62,12 +54,6 @@ bound_narrows n c d e b upper lower t = (
 abbrev pub Left : ℕ → (ℕ → ℕ → ℤ) → List Item → (ℕ → ℕ → ℤ) → List Item → Type 0
 Left n start all d rest = (t : ℕ → ℤ) → (Fits n d t × AllByRecursion (Keeps t) rest) ↔ (Fits n start t × AllByRecursion (Keeps t) all)
 
-pub left_first : (n : ℕ) (start d : ℕ → ℕ → ℤ) (all rest : List Item) → ((i j : ℕ) → i < n → j < n → d i j ≡ start i j) → rest ≡ all → Left n start all d rest
-left_first n start d all rest same is t = (
-  λ both. ((fits_same n start d same t).0 both.0, rw (← is) both.1),
-  λ both. ((fits_same n start d same t).1 both.0, rw is both.1),
-)
-
 pub left_more : (n : ℕ) (start d e : ℕ → ℕ → ℤ) (all rest more : List Item) (x : Item) → rest ≡ x ∷ more → Narrowed n d e (λ t. Keeps t x) → Left n start all d rest → Left n start all e more
 left_more n start d e all rest more x is narrows left t =
     let whole : AllByRecursion (Keeps t) rest ↔ (Keeps t x × AllByRecursion (Keeps t) more) = rw is (λ h. h, λ h. h) in (
@@ -85,9 +71,6 @@ pub record ClosesSoFar (n : ℕ) (d e : ℕ → ℕ → ℤ) (k : ℕ) : Type 0 
   pub rough : Rough n e
   pub closed : ClosedBelow n e k
   pub same : (t : ℕ → ℤ) → Fits n e t ↔ Fits n d t
-
-pub closes_first : (n : ℕ) (d : ℕ → ℕ → ℤ) → Rough n d → ClosesSoFar n d d 0
-closes_first n d rough = record { rough = rough; closed = λ m i j l p q. absurd (omega arith); same = λ t. (λ h. h, λ h. h) }
 
 module _ (n k : ℕ) (d e : ℕ → ℕ → ℤ) (k_in : k < n) (zero : d k k ≡ pos 0) (stage : Relaxed n d e k) where
   old : ClosedBelow n d k → (m i j : ℕ) → m < k → i < n → j < n → e i j ≤ℤ (e i m +ℤ e m j)

@@ -1,10 +1,7 @@
 -- A grid that is written anew twice.
-use Rattle.std.proofs.Common.{◌≡◌, ℕ, ◌*◌, drop, refl, ◌∙◌, subst}
+use Rattle.std.proofs.Common.{◌≡◌, ℕ, ◌*◌, drop, ◌∙◌, subst}
 use Rattle.network.specs.declared.grid.Grid.{Grid}
 use Rattle.network.specs.Filled.{Refilled}
-
-pub refilled_none : (f : Grid) → Refilled f f
-refilled_none f = record { rows = refl; same = refl; behind = refl }
 
 pub refilled_onward : (f g h : Grid) → Refilled f g → Refilled g h → Refilled f h
 refilled_onward f g h one two = record {

@@ -1,7 +1,7 @@
 -- The table that every compilation begins with.
-use Rattle.std.proofs.Common.{◌≡◌, ℕ, ◌+◌, ◌*◌, ◌/◌, ◌%◌, ◌<◌, eqb, ◌⊎◌, List, ◌++◌, length, get_or, set, ℤ, pos, ◌≤ℤ◌, refl, ◌∙◌, inl, inr, arith}
+use Rattle.std.proofs.Common.{◌≡◌, ℕ, ◌+◌, ◌*◌, ◌/◌, ◌%◌, ◌<◌, eqb, ◌⊎◌, List, ◌++◌, length, get_or, ℤ, pos, ◌≤ℤ◌, refl, ◌∙◌, inl, inr, arith}
 use Rattle.std.proofs.lemmas.Nat.{mul-add-lt, div-mul-add, mod-mul-add}
-use Rattle.std.proofs.lemmas.List.{get_or-set_same, get_or-set_other, get_or_append_left}
+use Rattle.std.proofs.lemmas.List.{get_or_append_left}
 use Rattle.std.proofs.lemmas.Int.{ints}
 use Rattle.std.proofs.lemmas.Bool.{cases_eq, eq-eqb, ne_eqb, or_left, or_right, or_from, cond-true, cond-false}
 use Rattle.bounds.specs.Limits.{horizon}
@@ -36,12 +36,6 @@ unbounded_range i j = elim (unbounded_cases i j) [
 -- every place below p has its first number
 abbrev pub Begun : ℕ → List ℤ → ℕ → Type 0
 Begun n xs p = (q : ℕ) → q < p → get_or xs q (pos 0) ≡ unbounded (q / n) (q % n)
-
-pub begun_more : (n : ℕ) (xs : List ℤ) (p : ℕ) (v : ℤ) → p < length xs → v ≡ unbounded (p / n) (p % n) → Begun n xs p → Begun n (set xs p v) (p + 1)
-begun_more n xs p v p_in is begun q l = elim (cases_eq q p) [
-  | inl h ↦ rw h (get_or-set_same xs p v (pos 0) p_in ∙ is)
-  | inr h ↦ get_or-set_other xs p q v (pos 0) h ∙ begun q (omega arith)
-]
 
 -- a list that begins with such a front
 pub begun_front : (n : ℕ) (xs ys : List ℤ) → length xs ≡ n * n → Begun n xs (n * n) → Begun n (xs ++ ys) (n * n)

@@ -1,15 +1,10 @@
-use Rattle.std.proofs.Common.{◌≡◌, ℕ, pos, MatchBool, sym, subst, arith}
+use Rattle.std.proofs.Common.{◌≡◌, ℕ, pos, MatchBool, subst, arith}
 use Rattle.network.proofs.Testing.{when_map}
 use Rattle.network.proofs.Narrowing.{closes_more, closes_all, refuted_hopeless}
 use Rattle.network.proofs.Refilling.{refilled_onward}
 use Rattle.network.specs.Grid.{Relaxed, Rough, Settled, entry_at}
 use Rattle.network.specs.Lines.{Refuted}
 use Rattle.network.proofs.grid.Grid.close.Goals as goal
-
-pub relax-requires : goal.relax-requires
-relax-requires c =
-    let far = c.loop-k.invariant in
-    record { via = omega (arith, far.rest.rows); rough = subst (λ (n : ℕ). Rough n (entry_at n c.loop-k.self.cells.now)) (sym far.rest.rows) far.closes.rough }
 
 pub returns-then-not-relax : goal.returns-then-not-relax
 returns-then-not-relax c =
@@ -27,10 +22,6 @@ loop-k-preserved c =
     let k = c.loop-k.k in
     let stage = subst (λ (n : ℕ). Rough n (entry_at n ys) × Relaxed n (entry_at n xs) (entry_at n ys) k × (entry_at n xs k k ≡ pos 0)) far.rest.rows c.if-not-relax.ensures.relaxed in
     record { closes = closes_more _ _ _ _ _ c.loop-k-test.true far.closes stage.0 stage.1 stage.2; rest = refilled_onward _ _ _ far.rest c.relax.ensures.rest }
-
-pub is_settled-requires : goal.is_settled-requires
-is_settled-requires c =
-    let far = c.loop-k.invariant in subst (λ (n : ℕ). Rough n (entry_at n c.loop-k.self.cells.now)) (sym far.rest.rows) far.closes.rough
 
 pub returns : goal.returns
 returns c =

@@ -7,9 +7,6 @@ use Rattle.network.proofs.Places.{row_length, behind_written}
 use Rattle.network.proofs.Lowering.{row_more, row_all}
 use Rattle.network.proofs.grid.Grid.relax_row.Goals as goal
 
-pub loop-j-init : goal.loop-j-init
-loop-j-init c = record { done = λ b l. absurd (omega arith); todo = λ b l. refl }
-
 pub loop-j-preserved : goal.loop-j-preserved
 loop-j-preserved c =
     let long = row_length c.args.self.now.n c.args.i c.requires.inside c.args.self.now.cells.now c.args.self.now.room in

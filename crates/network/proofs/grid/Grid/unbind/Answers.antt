@@ -1,12 +1,8 @@
-use Rattle.std.proofs.Common.{◌≡◌, ◌*◌, ◌++◌, length, drop, refl, ◌∙◌, arith}
+use Rattle.std.proofs.Common.{◌≡◌, ◌*◌, ◌++◌, length, drop, refl, arith}
 use Rattle.std.proofs.lemmas.List.{length-take-le}
 use Rattle.std.proofs.lemmas.Slice.{drop-append-drop}
-use Rattle.std.proofs.lemmas.Int.{ints}
-use Rattle.network.proofs.Starting.{Begun, begun_more, begun_front, begun_rough, entry_unbounded}
+use Rattle.network.proofs.Starting.{Begun, begun_front, begun_rough, entry_unbounded}
 use Rattle.network.proofs.grid.Grid.unbind.Goals as goal
-
-pub loop-p-preserved : goal.loop-p-preserved
-loop-p-preserved c = begun_more _ _ _ _ (omega arith) (omega (arith, ints) ∙ c.unbounded_gap.ensures) c.loop-p.invariant
 
 pub returns : goal.returns
 returns c =

@@ -9,9 +9,6 @@ use Rattle.network.proofs.Keeping.{before_more, before_apart, before_skipped, ta
 use Rattle.network.proofs.leaders.Leaders.find_links.Goals as goal
 use Rattle.network.proofs.leaders.Leaders.find_links.Goals.{then-leads+in_ok-push_from, else-leads}
 
-pub loop-trigger-init : goal.loop-trigger-init
-loop-trigger-init c = gained_none link_before _ _ _ (λ x h. omega (arith, h.1))
-
 pub push_from-requires-clause-slots : goal.push_from-requires-clause-slots
 push_from-requires-clause-slots c =
     let d = gaps c.args.self.now in

@@ -9,9 +9,6 @@ use Rattle.network.proofs.Keeping.{from_more, from_apart, from_skipped}
 use Rattle.network.proofs.leaders.Leaders.push_from.Goals as goal
 use Rattle.network.proofs.leaders.Leaders.push_from.Goals.{then-target-trigger+then-leads+in_ok-push_between, else-target-trigger, else-target-trigger-via-then-target-trigger+else-leads, else-target-trigger-via-else-target-trigger}
 
-pub loop-target-init : goal.loop-target-init
-loop-target-init c = gained_none link_before _ _ _ (λ x h. omega (arith, h.2))
-
 pub push_between-requires-clause-slots : goal.push_between-requires-clause-slots
 push_between-requires-clause-slots c =
     let f = links_between (gaps c.args.self.now) c.args.trigger in
