@@ -1,5 +1,5 @@
 -- What a refusal of `compile` tells, and which refusals come before a timetable is looked for.
-use Rattle.std.specs.Prelude.{ℕ, ◌-◌, ◌*◌, Bool, cond, ◌||◌, Some, None, Option, nat_lt}
+use Rattle.std.specs.Prelude.{ℕ, ◌-◌, ◌*◌, Bool, cond, ◌||◌, Some, Option, nat_lt}
 use Rattle.std.specs.Option.{option_map}
 use Rattle.bounds.specs.Meaning.{Meaning}
 use Rattle.bounds.specs.Spoiled.{first_spoiled}

@@ -1,11 +1,11 @@
-use Rattle.std.proofs.Common.{◌≡◌, ℕ, ◌∷◌, Ok, refl, sym, ap, ◌∙◌, subst, arith}
+use Rattle.std.proofs.Common.{ℕ, ◌∷◌, Ok, sym, ap, ◌∙◌, subst, arith}
 use Rattle.bounds.specs.Meaning.{Below}
 use Rattle.bounds.specs.Timetables.{Keeps, KeepsBound}
 use Rattle.bounds.specs.Unread.{unread}
 use Rattle.bounds.proofs.Scanning.{taken_below, taken_same}
 use Rattle.network.specs.Gaps.{Narrowed}
 use Rattle.network.specs.Grid.{Rough, entry_at, unbounded}
-use Rattle.network.proofs.Narrowing.{left_first, left_more, left_none}
+use Rattle.network.proofs.Narrowing.{left_more, left_none}
 use Rattle.network.proofs.Refilling.{refilled_onward}
 use Rattle.network.proofs.grid.Grid.gather.Goals as goal
 
