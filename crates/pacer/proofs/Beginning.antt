@@ -1,22 +1,23 @@
 -- The index and the first state of a run.
-use Rattle.std.proofs.Common.{◌≡◌, ℕ, zero, suc, ◌+◌, ◌<◌, ◌≤◌, Bool, true, false, cond, ◌&&◌, eqb, List, [], ◌∷◌, length, get_or, count_by, take, set, replicate, sym, subst, refl, ap, ◌∙◌, inl, inr, arith, length-set, length-take}
-use lib.ListN.{length-map, length-replicate}
+use Rattle.std.proofs.Common.{◌≡◌, ℕ, zero, suc, ◌+◌, ◌<◌, ◌≤◌, Bool, true, false, cond, ◌&&◌, eqb, List, [], ◌∷◌, length, get_or, count_by, take, set, replicate, sym, refl, ap, ◌∙◌, inl, inr, arith, length-set, length-take}
+use lib.ListN.{length-replicate}
 use Rattle.std.proofs.lemmas.List.Sums.{count_by-le-length, sum_by_more}
 use Rattle.std.proofs.lemmas.List.{get_or-set_same, get_or-set_other, get_or_past}
 use Rattle.std.proofs.lemmas.Bool.{cases_eq, cases_lt, eq-eqb, ne_eqb, cond-true, cond-false}
-use Rattle.bounds.specs.Limits.{most_steps}
+use Rattle.bounds.specs.Limits.{horizon, most_steps}
 use Rattle.network.specs.declared.tables.GroupEntry.{GroupEntry}
 use Rattle.network.specs.declared.tables.Kind.TheVariants.{Most, Least}
 use Rattle.network.specs.declared.tables.Link.{Link}
+use Rattle.pacer.specs.declared.group.Group.TheVariants.{Open}
 use Rattle.pacer.specs.declared.index.Span.{Span}
 use Rattle.pacer.specs.declared.state.State.{State}
 use Rattle.pacer.specs.declared.tables.Tables.{Tables}
 use Rattle.pacer.specs.Fixing.{no_link}
-use Rattle.pacer.specs.Groups.{is_open}
+use Rattle.pacer.specs.Groups.{is_open, no_group}
 use Rattle.pacer.specs.Index.{is_least, least_onto, holds_back, Indexed, SpansSoFar, WaitsSoFar}
 use Rattle.pacer.specs.Opening.{Begins, EntriesFit, LinksFit, fresh}
-use Rattle.pacer.specs.States.{group_at, waits_at}
-use Rattle.pacer.proofs.Indexing.{count_same, indexed_fixed, indexed_noted}
+use Rattle.pacer.specs.States.{group_at}
+use Rattle.pacer.proofs.Indexing.{count-cons, indexed_fixed, indexed_same}
 
 -- the default stands everywhere
 replicate_read : {X : Type 0} (n : ℕ) (x : X) (i : ℕ) → get_or (replicate n x) i x ≡ x
@@ -82,15 +83,16 @@ module _ (links : List Link) (waits : List ℕ) (place : ℕ) (l : place < lengt
 
 -- in the beginning every group is open
 fresh_open : (waits : List ℕ) (leader : ℕ) → is_open (group_at (fresh waits) leader) ≡ true
-fresh_open [] leader = refl
-fresh_open (n ∷ ns) zero = refl
-fresh_open (n ∷ ns) (suc leader) = fresh_open ns leader
+fresh_open waits leader = go most_steps leader
+  where
+    go : (n i : ℕ) → is_open (get_or (replicate n (Open 0 horizon)) i no_group) ≡ true
+    go zero i = refl
+    go (suc n) zero = refl
+    go (suc n) (suc i) = go n i
 
--- and has its count
-fresh_waits : (waits : List ℕ) (leader : ℕ) → waits_at (fresh waits) leader ≡ get_or waits leader 0
-fresh_waits [] leader = refl
-fresh_waits (n ∷ ns) zero = refl
-fresh_waits (n ∷ ns) (suc leader) = fresh_waits ns leader
+count_same : (p q : Link → Bool) → ((k : Link) → p k ≡ q k) → (ks : List Link) → count_by p ks ≡ count_by q ks
+count_same p q same [] = refl
+count_same p q same (k ∷ ks) = omega (arith, count-cons p k ks, count-cons q k ks, ap (λ b. cond {A = ℕ} b 1 0) (same k), count_same p q same ks)
 
 and_true : (b c : Bool) → c ≡ true → b ≡ (b && c)
 and_true true c e = sym e
@@ -110,10 +112,10 @@ begins_indexed t s small entries fits index begins =
         | inl l ↦ omega (arith, (entries step l).leads.inside)
         | inr past ↦ omega (arith, ap (λ e. e.leader) (get_or_past t.entries.now step no_entry (omega (arith, t.each))))
       ];
-      sized = length-map _ _ ∙ begins.sized;
+      sized = record { groups = length-replicate most_steps (Open 0 horizon); waits = begins.sized };
       covers = λ place l. index.covers place l (omega (arith, (fits place l).trigger.inside));
-      counts = λ leader l. fresh_waits w leader ∙ begins.counted leader l ∙ count_same (least_onto leader) (holds_back (fresh w) leader) (λ k. and_true (least_onto leader k) _ (fresh_open w k.trigger)) t.links.now;
+      counts = λ leader l. begins.counted leader l ∙ count_same (least_onto leader) (holds_back (fresh w) leader) (λ k. and_true (least_onto leader k) _ (fresh_open w k.trigger)) t.links.now;
     } in
     let open_start : is_open (group_at (fresh w) 0) ≡ true = fresh_open w 0 in
     let fixed_first = indexed_fixed t (fresh w) first 0 0 (omega arith) open_start in
-    subst (Indexed t) (sym begins.begun) (indexed_noted t _ 0 0 fixed_first)
+    indexed_same t _ s (ap (λ s. s.groups) begins.begun) (ap (λ s. s.waits) begins.begun) fixed_first

@@ -1,5 +1,5 @@
 -- The index stays right, and what it is good for.
-use Rattle.std.proofs.Common.{◌≡◌, ℕ, zero, suc, ◌+◌, ◌-◌, ◌<◌, ◌≤◌, Bool, true, false, cond, ◌&&◌, eqb, ◌↔◌, List, [], ◌∷◌, length, get_or, count_by, take, drop, sym, refl, ap, ◌∙◌, inl, inr, arith, length-set}
+use Rattle.std.proofs.Common.{◌≡◌, ℕ, zero, suc, ◌+◌, ◌-◌, ◌<◌, ◌≤◌, Bool, true, false, cond, ◌&&◌, eqb, ◌↔◌, List, [], ◌∷◌, length, get_or, count_by, take, drop, set, sym, refl, ap, ◌∙◌, inl, inr, arith, length-set}
 use Rattle.std.proofs.lemmas.List.Sums.{sum_by-cons}
 use Rattle.std.proofs.lemmas.List.{get_or-set_same, get_or-set_other, set_past}
 use Rattle.std.proofs.lemmas.Bool.{cases_eq, cases_lt, cases_Bool, eq-eqb, ne_eqb, eqb-true, cond-true, cond-false, cond_both}
@@ -9,15 +9,14 @@ use Rattle.network.specs.declared.tables.Kind.TheVariants.{Most, Least}
 use Rattle.network.specs.declared.tables.Link.{Link}
 use Rattle.pacer.specs.declared.group.Group.{Group}
 use Rattle.pacer.specs.declared.group.Group.TheVariants.{Open, Fixed}
-use Rattle.pacer.specs.declared.state.Slot.{Slot}
 use Rattle.pacer.specs.declared.state.State.{State}
 use Rattle.pacer.specs.declared.tables.Tables.{Tables}
 use Rattle.network.specs.Groups.{group_at as entry_of}
 use Rattle.pacer.specs.Calls.{cued, settled}
 use Rattle.pacer.specs.Fixing.{after_link, applied, fixed, no_link, one_wait_less, own_links, span_at}
-use Rattle.pacer.specs.Groups.{is_open, narrowed}
+use Rattle.pacer.specs.Groups.{is_open, narrowed, no_group}
 use Rattle.pacer.specs.Index.{is_least, least_onto, holds_back, Indexed, Plain}
-use Rattle.pacer.specs.States.{group_at, no_slot, slot_at, waits_at, with_cue, with_fewer_waits, with_group, with_now, with_slot}
+use Rattle.pacer.specs.States.{group_at, waits_at, with_group}
 
 -- a link with this trigger
 abbrev own : ℕ → Link → Bool
@@ -53,46 +52,38 @@ open_narrowed Least bound (Open lower upper) = refl
 open_narrowed Most bound (Fixed time) = refl
 open_narrowed Least bound (Fixed time) = refl
 
--- one slot altered
-module _ (s : State) (step : ℕ) (slot : Slot) where
-  slot_same : step < length s.slots → slot_at (with_slot s step slot) step ≡ slot
-  slot_same l = get_or-set_same s.slots step slot no_slot l
+-- one group altered
+module _ (s : State) (leader : ℕ) (g : Group) where
+  group_other : (x : ℕ) → (x ≡ leader → ⊥) → group_at (with_group s leader g) x ≡ group_at s x
+  group_other x ne = get_or-set_other s.groups leader x g no_group ne
 
-  slot_other : (x : ℕ) → (x ≡ step → ⊥) → slot_at (with_slot s step slot) x ≡ slot_at s x
-  slot_other x ne = get_or-set_other s.slots step x slot no_slot ne
+  group_same : leader < length s.groups → group_at (with_group s leader g) leader ≡ g
+  group_same l = get_or-set_same s.groups leader g no_group l
 
-  slot_size : length (with_slot s step slot).slots ≡ length s.slots
-  slot_size = length-set s.slots step slot
-
-  -- it is altered in what is not read
-  read_same : {X : Type 0} (f : Slot → X) → f slot ≡ f (slot_at s step) → (x : ℕ) → f (slot_at (with_slot s step slot) x) ≡ f (slot_at s x)
-  read_same f same x = elim (cases_eq x step) [
-    | inl e ↦ elim (cases_lt step (length s.slots)) [
-      | inl l ↦ ap (λ y. f (slot_at (with_slot s step slot) y)) e ∙ ap f (slot_same l) ∙ same ∙ ap (λ y. f (slot_at s y)) (sym e)
-      | inr past ↦ ap (λ slots. f (get_or slots x no_slot)) (set_past s.slots step slot past)
-    ]
-    | inr ne ↦ ap f (slot_other x ne)
-  ]
+  group_past : length s.groups ≤ leader → group_at (with_group s leader g) leader ≡ group_at s leader
+  group_past l = ap (λ gs. get_or gs leader no_group) (set_past s.groups leader g l)
 
 -- one wait less, for a least link
 group_one_less : (kind : Kind) (target : ℕ) (s : State) (x : ℕ) → group_at (one_wait_less kind target s) x ≡ group_at s x
 group_one_less Most target s x = refl
-group_one_less Least target s x = read_same s target _ (λ slot. slot.group) refl x
+group_one_less Least target s x = refl
 
-waits_one_less : (kind : Kind) (target : ℕ) (s : State) (g : ℕ) → g < length s.slots → waits_at (one_wait_less kind target s) g ≡ waits_at s g - cond (is_least kind && eqb target g) 1 0
+waits_one_less : (kind : Kind) (target : ℕ) (s : State) (g : ℕ) → g < length s.waits → waits_at (one_wait_less kind target s) g ≡ waits_at s g - cond (is_least kind && eqb target g) 1 0
 waits_one_less Most target s g l = omega arith
 waits_one_less Least target s g l = elim (cases_eq g target) [
-  | inl e ↦ (
-      let less : waits_at (with_fewer_waits s target) target ≡ waits_at s target - 1 = ap (λ (slot : Slot). slot.waits) (slot_same s target _ (omega arith)) in
-      omega (arith, less, ap (waits_at (with_fewer_waits s target)) e, ap (waits_at s) e, cond-true {A = ℕ} (eqb target g) 1 0 (eq-eqb target g (sym e))))
-  | inr ne ↦ (
-      let same : waits_at (with_fewer_waits s target) g ≡ waits_at s g = ap (λ (slot : Slot). slot.waits) (slot_other s target _ g ne) in
-      omega (arith, same, cond-false {A = ℕ} (eqb target g) 1 0 (ne_eqb target g (λ e. ne (sym e)))))
+  | inl e ↦ omega (
+    arith,
+    ap (λ x. get_or (set s.waits target (waits_at s target - 1)) x 0) e,
+    get_or-set_same s.waits target (waits_at s target - 1) 0 (omega arith),
+    ap (waits_at s) e,
+    cond-true {A = ℕ} (eqb target g) 1 0 (eq-eqb target g (sym e)),
+  )
+  | inr ne ↦ omega (arith, get_or-set_other s.waits target g (waits_at s target - 1) 0 ne, cond-false {A = ℕ} (eqb target g) 1 0 (ne_eqb target g (λ e. ne (sym e))))
 ]
 
-size_one_less : (kind : Kind) (target : ℕ) (s : State) → length (one_wait_less kind target s).slots ≡ length s.slots
-size_one_less Most target s = refl
-size_one_less Least target s = slot_size s target _
+sizes_one_less : (kind : Kind) (target : ℕ) (s : State) → (length (one_wait_less kind target s).groups ≡ length s.groups) × (length (one_wait_less kind target s).waits ≡ length s.waits)
+sizes_one_less Most target s = (refl, refl)
+sizes_one_less Least target s = (refl, length-set s.waits target (waits_at s target - 1))
 
 -- what one link does
 module _ (time : ℕ) (k : Link) (s : State) where
@@ -100,15 +91,25 @@ module _ (time : ℕ) (k : Link) (s : State) where
   there = with_group s k.target (narrowed k.kind (time + k.seconds) (group_at s k.target))
 
   open_after_link : (x : ℕ) → is_open (group_at (after_link time k s) x) ≡ is_open (group_at s x)
-  open_after_link x = ap is_open (group_one_less k.kind k.target there x) ∙ read_same s k.target _ (λ slot. is_open slot.group) (open_narrowed k.kind (time + k.seconds) (group_at s k.target)) x
+  open_after_link x = ap is_open (group_one_less k.kind k.target there x) ∙ elim (cases_eq x k.target) [
+    | inl e ↦ ap (λ y. is_open (group_at there y)) e ∙ target_open ∙ ap (λ y. is_open (group_at s y)) (sym e)
+    | inr ne ↦ ap is_open (group_other s k.target _ x ne)
+  ]
+    where
+      target_open : is_open (group_at there k.target) ≡ is_open (group_at s k.target)
+      target_open = elim (cases_lt k.target (length s.groups)) [
+        | inl l ↦ ap is_open (group_same s k.target _ l) ∙ open_narrowed k.kind (time + k.seconds) (group_at s k.target)
+        | inr past ↦ ap is_open (group_past s k.target _ past)
+      ]
 
-  size_after_link : length (after_link time k s).slots ≡ length s.slots
-  size_after_link = size_one_less k.kind k.target there ∙ slot_size s k.target _
+  waits_after_link : (g : ℕ) → g < length s.waits → waits_at (after_link time k s) g ≡ waits_at s g - cond (least_onto g k) 1 0
+  waits_after_link g l = waits_one_less k.kind k.target there g l
 
-  waits_after_link : (g : ℕ) → g < length s.slots → waits_at (after_link time k s) g ≡ waits_at s g - cond (least_onto g k) 1 0
-  waits_after_link g l =
-      let size : length there.slots ≡ length s.slots = slot_size s k.target _ in
-      waits_one_less k.kind k.target there g (omega arith) ∙ ap (λ n. n - cond (least_onto g k) 1 0) (read_same s k.target _ (λ slot. slot.waits) refl g)
+  sizes_after_link : (length (after_link time k s).groups ≡ length s.groups) × (length (after_link time k s).waits ≡ length s.waits)
+  sizes_after_link = (
+    (sizes_one_less k.kind k.target there).0 ∙ length-set s.groups k.target (narrowed k.kind (time + k.seconds) (group_at s k.target)),
+    (sizes_one_less k.kind k.target there).1,
+  )
 
 -- one link more is counted, or not
 pub count-cons : (test : Link → Bool) (k : Link) (ks : List Link) → count_by test (k ∷ ks) ≡ cond (test k) 1 0 + count_by test ks
@@ -125,17 +126,18 @@ open_applied leader time (k ∷ ks) s x =
     open_applied leader time ks (cond (own leader k) (after_link time k s) s) x
     ∙ cond_both (own leader k) (after_link time k s) s (λ r. is_open (group_at r x) ≡ is_open (group_at s x)) (λ _. open_after_link time k s x) (λ _. refl)
 
-size_applied : (leader time : ℕ) (ks : List Link) (s : State) → length (applied leader time ks s).slots ≡ length s.slots
-size_applied leader time [] s = refl
-size_applied leader time (k ∷ ks) s =
-    size_applied leader time ks (cond (own leader k) (after_link time k s) s)
-    ∙ cond_both (own leader k) (after_link time k s) s (λ r. length r.slots ≡ length s.slots) (λ _. size_after_link time k s) (λ _. refl)
+sizes_applied : (leader time : ℕ) (ks : List Link) (s : State) → (length (applied leader time ks s).groups ≡ length s.groups) × (length (applied leader time ks s).waits ≡ length s.waits)
+sizes_applied leader time [] s = (refl, refl)
+sizes_applied leader time (k ∷ ks) s =
+    let rest = sizes_applied leader time ks (cond (own leader k) (after_link time k s) s) in
+    let here = cond_both (own leader k) (after_link time k s) s (λ r. (length r.groups ≡ length s.groups) × (length r.waits ≡ length s.waits)) (λ _. sizes_after_link time k s) (λ _. (refl, refl)) in
+    (rest.0 ∙ here.0, rest.1 ∙ here.1)
 
-waits_applied : (leader time : ℕ) (ks : List Link) (s : State) (g : ℕ) → g < length s.slots → waits_at (applied leader time ks s) g ≡ waits_at s g - count_by (own_onto leader g) ks
+waits_applied : (leader time : ℕ) (ks : List Link) (s : State) (g : ℕ) → g < length s.waits → waits_at (applied leader time ks s) g ≡ waits_at s g - count_by (own_onto leader g) ks
 waits_applied leader time [] s g l = omega arith
 waits_applied leader time (k ∷ ks) s g l =
     let next = cond (own leader k) (after_link time k s) s in
-    let size : length next.slots ≡ length s.slots = cond_both (own leader k) (after_link time k s) s (λ r. length r.slots ≡ length s.slots) (λ _. size_after_link time k s) (λ _. refl) in
+    let size : length next.waits ≡ length s.waits = cond_both (own leader k) (after_link time k s) s (λ r. length r.waits ≡ length s.waits) (λ _. (sizes_after_link time k s).1) (λ _. refl) in
     let here : waits_at next g ≡ waits_at s g - cond (own_onto leader g k) 1 0 =
     cond_both (own leader k) (after_link time k s) s (λ r. waits_at r g ≡ waits_at s g - cond (own_onto leader g k) 1 0)
     (λ e. waits_after_link time k s g l ∙ ap (λ b. waits_at s g - cond (b && least_onto g k) 1 0) (sym e))
@@ -200,43 +202,34 @@ module _ (t : Tables) (s : State) (indexed : Indexed t s) where
   pub indexed_fixed : (leader time : ℕ) → leader < most_steps → is_open (group_at s leader) ≡ true → Indexed t (fixed leader time (own_links t leader) s)
   indexed_fixed leader time l was = rw (own_part leader time s) record {
     leaders = indexed.leaders;
-    sized = size_applied leader time t.links.now there ∙ slot_size s leader _ ∙ indexed.sized;
+    sized = record {
+      groups = (sizes_applied leader time t.links.now there).0 ∙ length-set s.groups leader (Fixed time) ∙ indexed.sized.groups;
+      waits = (sizes_applied leader time t.links.now there).1 ∙ indexed.sized.waits;
+    };
     covers = indexed.covers;
     counts = λ g q. (
-        let size : length there.slots ≡ length s.slots = slot_size s leader _ in
-        let left = waits_applied leader time t.links.now there g (omega (arith, size, indexed.sized)) in
-        let same : waits_at there g ≡ waits_at s g = read_same s leader _ (λ slot. slot.waits) refl g in
+        let left = waits_applied leader time t.links.now there g (omega (arith, indexed.sized.waits)) in
         let split = count_fixed leader g s (fixed leader time t.links.now s) t.links.now was closed others in
-        omega (arith, left, same, split, indexed.counts g q));
+        omega (arith, left, split, indexed.counts g q));
   }
     where
       there : State
       there = with_group s leader (Fixed time)
 
       closed : is_open (group_at (fixed leader time t.links.now s) leader) ≡ false
-      closed = open_applied leader time t.links.now there leader ∙ ap (λ (slot : Slot). is_open slot.group) (slot_same s leader _ (omega (arith, indexed.sized)))
+      closed = open_applied leader time t.links.now there leader ∙ ap is_open (group_same s leader (Fixed time) (omega (arith, indexed.sized.groups)))
 
       others : (x : ℕ) → (x ≡ leader → ⊥) → is_open (group_at (fixed leader time t.links.now s) x) ≡ is_open (group_at s x)
-      others x ne = open_applied leader time t.links.now there x ∙ ap (λ (slot : Slot). is_open slot.group) (slot_other s leader _ x ne)
+      others x ne = open_applied leader time t.links.now there x ∙ ap is_open (group_other s leader (Fixed time) x ne)
 
-pub count_same : (p q : Link → Bool) → ((k : Link) → p k ≡ q k) → (ks : List Link) → count_by p ks ≡ count_by q ks
-count_same p q same [] = refl
-count_same p q same (k ∷ ks) = omega (arith, count-cons p k ks, count-cons q k ks, ap (λ b. cond {A = ℕ} b 1 0) (same k), count_same p q same ks)
-
--- a cue time alters nothing of it
-pub indexed_noted : (t : Tables) (s : State) (step time : ℕ) → Indexed t s → Indexed t (with_cue s step time)
-indexed_noted t s step time indexed = record {
+-- what else a call alters leaves the index right
+pub indexed_same : (t : Tables) (s after : State) → after.groups ≡ s.groups → after.waits ≡ s.waits → Indexed t s → Indexed t after
+indexed_same t s after groups waits indexed = record {
   leaders = indexed.leaders;
-  sized = slot_size s step _ ∙ indexed.sized;
+  sized = record { groups = ap length groups ∙ indexed.sized.groups; waits = ap length waits ∙ indexed.sized.waits };
   covers = indexed.covers;
-  counts = λ g l.
-      read_same s step _ (λ slot. slot.waits) refl g ∙ indexed.counts g l
-      ∙ count_same (holds_back s g) (holds_back (with_cue s step time) g) (λ k. ap (λ group. least_onto g k && is_open group) (sym (read_same s step _ (λ slot. slot.group) refl k.trigger))) t.links.now;
+  counts = λ g l. ap (λ ws. get_or ws g 0) waits ∙ indexed.counts g l ∙ ap (λ gs. count_by (λ k. least_onto g k && is_open (get_or gs k.trigger no_group)) t.links.now) (sym groups);
 }
-
--- nor does the time
-indexed_now : (t : Tables) (s : State) (time : ℕ) → Indexed t s → Indexed t (with_now s time)
-indexed_now t s time indexed = record { leaders = indexed.leaders; sized = indexed.sized; covers = indexed.covers; counts = indexed.counts }
 
 -- a cue that is taken
 pub indexed_cued : (t : Tables) (s : State) (step time : ℕ) → Indexed t s → Indexed t (cued t s step time)
@@ -244,4 +237,4 @@ indexed_cued t s step time indexed =
     let leader = (entry_of t.entries.now step).leader in
     let moved : Indexed t (settled t s step time) =
     cond_both (is_open (group_at s leader)) (fixed leader time (own_links t leader) s) s (Indexed t) (λ was. indexed_fixed t s indexed leader time (indexed.leaders step) was) (λ _. indexed) in
-    indexed_now t _ time (indexed_noted t (settled t s step time) step time moved)
+    indexed_same t (settled t s step time) (cued t s step time) refl refl moved

@@ -30,10 +30,15 @@ pub record Covered (links : List Link) (spans : List Span) (place : ℕ) : Type 
   pub from : (span_at spans (slice_index_or links place no_link).trigger).start ≤ place
   pub to : place < (span_at spans (slice_index_or links place no_link).trigger).end
 
+-- the arrays of a state have a place for each step that there can be
+pub record Sized (s : State) : Type 0 where
+  pub groups : length s.groups ≡ most_steps
+  pub waits : length s.waits ≡ most_steps
+
 -- the index is right: each link stands in the span of its trigger, and each group has the count of the least links onto it whose triggers' groups are open
 pub record Indexed (t : Tables) (s : State) : Type 0 where
   pub leaders : (step : ℕ) → (entry_of t.entries.now step).leader < most_steps
-  pub sized : length s.slots ≡ most_steps
+  pub sized : Sized s
   pub covers : (place : ℕ) → place < length t.links.now → Covered t.links.now t.spans place
   pub counts : (leader : ℕ) → leader < most_steps → waits_at s leader ≡ count_by (holds_back s leader) t.links.now
 

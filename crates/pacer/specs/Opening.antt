@@ -1,5 +1,5 @@
 -- Which tables a run is opened on, and how it begins.
-use Rattle.std.specs.Prelude.{◌≡◌, ℕ, ◌<◌, ◌≤◌, ◌⊎◌, List, length, count_by, take, map, None, Option, slice_index, slice_index_or}
+use Rattle.std.specs.Prelude.{◌≡◌, ℕ, ◌<◌, ◌≤◌, ◌⊎◌, List, length, count_by, take, replicate, None, Option, slice_index, slice_index_or}
 use Rattle.bounds.specs.Limits.{horizon, most_steps}
 use Rattle.network.specs.Groups.{group_at as entry_of}
 use Rattle.network.specs.declared.tables.GroupEntry.{GroupEntry}
@@ -46,7 +46,7 @@ pub record Fit (n : ℕ) (es : List GroupEntry) (ks : List Link) : Type 0 where
 
 -- every group open from 0 to 1,000,000, and no step cued
 abbrev pub fresh : List ℕ → State
-fresh waits = record { slots = map (λ n. record { group = Open 0 horizon; waits = n; cue = None }) waits; now = 0 }
+fresh waits = record { groups = replicate most_steps (Open 0 horizon); cues = replicate most_steps None; waits = waits; now = 0 }
 
 -- the state that a run begins with: step 0's group is fixed at 0, its links are applied, and step 0 is cued at 0
 pub record Begins (t : Tables) (s : State) : Type 0 where

@@ -1,5 +1,5 @@
 // The list of what is due.
-ghost use Rattle.std.specs.Prelude.{◌≡◌, ◌+◌, ◌<◌, length, MatchResult};
+ghost use Rattle.std.specs.Prelude.{◌≡◌, ◌+◌, ◌<◌, length, IsOkAnd};
 ghost use Rattle.network.specs.Order.{due_before};
 ghost use Rattle.queue.specs.Growing.{Gained};
 ghost use Rattle.pacer.specs.Due.{Listed, due_of, uncued_count};
@@ -35,10 +35,9 @@ impl Tables<'_> {
     // Pushes the entry of one step.
     fn push_due(&self, state: &State, step: u8, queue: &mut Queue<'_, DueEntry>) -> Result<(), Full>
         requires { queue.old.len < length queue.old.slots.now }
-        ensures gained { MatchResult result
-            (λ _. Gained due_before 1 (λ x. x ≡ due_of self.now state.entry.now step) queue.old queue.new)
-            (λ _. ⊥) }
-        ensures count { MatchResult result (λ _. queue.new.len ≡ queue.old.len + 1) (λ _. ⊥) }
+        ensures gained { IsOkAnd result
+            (λ _. Gained due_before 1 (λ x. x ≡ due_of self.now state.entry.now step) queue.old queue.new) }
+        ensures count { IsOkAnd result (λ _. queue.new.len ≡ queue.old.len + 1) }
     {
         queue.push(DueEntry {
             step: u16::from(step),

@@ -9,7 +9,7 @@ use crate::index::{Span, span_of};
 use crate::refusal::OpenRefusal;
 use crate::run::Run;
 use crate::slots::put;
-use crate::state::{MOST, Slot, State};
+use crate::state::{MOST, State};
 use crate::tables::Tables;
 use bounds::limits::{HORIZON, MOST_STEPS};
 use network::{GroupEntry, Kind, Link};
@@ -88,15 +88,15 @@ impl Tables<'_> {
     fn first_state(&self) -> State
         ensures { Begins self.now result }
     {
-        let slots = waits_of(self.links).map(|waits| Slot {
-            group: Group::Open {
+        let mut state = State {
+            groups: [Group::Open {
                 lower: 0,
                 upper: LAST,
-            },
-            waits,
-            cue: None,
-        });
-        let mut state = State { slots, now: 0 };
+            }; MOST],
+            cues: [None; MOST],
+            waits: waits_of(self.links),
+            now: 0,
+        };
         state.fix(self.own_links(0), 0, 0);
         state.put_cue(0, 0);
         state

@@ -87,8 +87,9 @@ impl Tables<'_> {
     fn overdue(&self, state: &State, call: Call, time: u32) -> bool
         ensures { IsTrue result ↔ Overdue self.now state.entry.now time }
     {
-        (0..usize::from(self.steps)).any(|step| state.cue(step).is_none()
-            && self.upper_end(state, step, call) < u64::from(time))
+        (0..usize::from(self.steps)).any(|step| {
+            state.cue(step).is_none() && self.upper_end(state, step, call) < u64::from(time)
+        })
     }
 
     // Whether the step's group is open, and the step comes after its leader or the group waits for an open one.
