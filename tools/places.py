@@ -33,7 +33,7 @@ LINES = {
     3: [
         ("a while loop", r"^\s*while "),
         ("a loop over the places of a slice", r"for \w+ in 0\.\.[\w.]*(len\(\)|n \* n)"),
-        ("a loop over a range of numbers", r"for \w+ in \(?0\.\.(?![\w.]*(len\(\)|n \* n))"),
+        ("a loop over a range of numbers", r"for (?!_ )\w+ in \(?0\.\.(?![\w.]*(len\(\)|n \* n))"),
         ("a search or a count by a loop of its own", r"^\s*(return (true|false|place);|count \+= 1;|taken = )$|^\s*(return (true|false|place);|count \+= 1;|taken = .*)$"),
     ],
     4: [

@@ -66,7 +66,7 @@ pub struct Outcome {
     pub links: usize,
 }
 
-// A row that no bound stands in yet.
+// A row that no bound stands in yet; a variant with a value can be no derived default.
 const NO_ROW: Row = Row {
     from: 0,
     to: 0,

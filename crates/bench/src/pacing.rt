@@ -67,6 +67,7 @@ fn pace<'a>(
 fn perform(run: &mut Run<'_>, cues: &[PlainCue]) -> u32
     ensures { result ≤ length cues.now }
 {
+    // Counted by hand: each cue changes the run, which a chain's closure would have to capture, and the count stops at its largest.
     let mut taken = 0u32;
     for cue in cues {
         if run.cue(cue.step, cue.time).is_ok() {

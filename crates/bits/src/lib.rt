@@ -17,6 +17,8 @@ pub const MOST_BITS: u32 = 64;
 /// The most bits that one signed field has.
 pub const MOST_SIGNED_BITS: u32 = 32;
 
+// The bytes, a place and a width are plain parameters of all four: no fact joins them, and a struct would be made anew for each call.
+
 /// The `width` bits from bit `start` on as a number, at most `MOST_BITS` of them; bits past the end are 0.
 #[tactic(auto, using(crate::proofs::Fields::reads, crate::proofs::Parts::field_part))]
 pub fn read_field(bytes: &[u8], start: u32, width: u32) -> u64

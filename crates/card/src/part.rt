@@ -61,6 +61,7 @@ impl<B> Part<B> {
     }
 }
 
+// `Placed` is asked of each field: `Field` is public, and a fact in its type would ask more of whoever makes one.
 impl Part<&[u8]> {
     /// A field as a number.
     pub(crate) fn number(&self, field: Field) -> u64

@@ -14,12 +14,14 @@ use bounds::limits::{HORIZON, MOST_STEPS};
 const MOST: usize = MOST_STEPS as usize;
 
 impl Grid<'_> {
+    // This and `relax` answer yes or no: the one refusal is made by the caller, which clears the table first.
     /// Closes the table: afterwards no entry is above the sum of two entries through a third step. Answers false where an entry shows that no timetable exists.
     pub(crate) fn close(&mut self) -> bool
         requires { Rough self.old.n (entries self.old) }
         ensures closed { MatchBool result (Closes self.old.n (entries self.old) (entries_after self.old self.new)) (Hopeless self.old.n (entries self.old)) }
         ensures rest { Refilled self.old self.new }
     {
+        // Over the numbers of the stages, which index no slice.
         for k in 0..self.n {
             if !self.relax(k) {
                 return false;
@@ -39,6 +41,7 @@ impl Grid<'_> {
             return false;
         }
         let via = self.row(k);
+        // Over the numbers of the rows: an iterator over the rows would keep the table lent.
         for i in 0..self.n {
             let through = self.at(i, k);
             if through < -HORIZON {

@@ -22,6 +22,7 @@ impl Run<'_> {
             return Err(Short);
         }
         let mut queue = Queue::new(buffer);
+        // Over step numbers, which index no slice.
         for step in 0..steps {
             if self.state.cue(usize::from(step)).is_none() {
                 self.tables.push_due(&self.state, step, &mut queue)?;

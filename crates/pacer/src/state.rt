@@ -9,7 +9,7 @@ use bounds::limits::MOST_STEPS;
 /// The places of a run's arrays, one for each step that there can be.
 pub(crate) const MOST: usize = MOST_STEPS as usize;
 
-// What a group past the end of the array would be.
+// What a group past the end of the array would be; a variant with values can be no derived default.
 const NO_GROUP: Group = Group::Open { lower: 0, upper: 0 };
 
 /// The groups by their leaders, the cue times, how many open groups each group waits for, and the time.

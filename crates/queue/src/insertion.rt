@@ -6,6 +6,8 @@ ghost use Rattle.queue.specs.Order.{Ascending, Strictly, placed};
 
 use crate::order::Ordered;
 
+// The length beside the slots: both are parts of one queue, which lends them apart. Through its field a proof of `push` lost what
+// the slots were before `copy_within` (`returns`).
 /// Places the entry among the first `len` slots.
 pub(crate) fn place<T: Ordered>(slots: &mut [T], len: usize, added: T)
     requires { len < length slots.old }

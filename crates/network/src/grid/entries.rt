@@ -6,6 +6,8 @@ ghost use Rattle.network.specs.Grid.{Lowered, zeroed};
 
 use super::Grid;
 
+// That a step is below `n` is asked at each call, of the call's own step. `Rough` is no fact of the type either: before `unbind` the
+// cells hold anything.
 impl<'a> Grid<'a> {
     /// A table over the cells, whose contents stay.
     pub(crate) fn new(n: usize, cells: &'a mut [i32]) -> Grid<'a>
