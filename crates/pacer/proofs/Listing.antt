@@ -43,10 +43,6 @@ count_front s k n l = let whole : k + (n - k) ≡ n = omega arith in subst (λ (
     go (suc d) = let next : k + suc d ≡ k + d + 1 = omega arith in omega (arith, go d, count_more s (k + d), ap (uncued_count s) next)
 
 module _ (t : Tables) (s : State) where
-  -- no step is before the first
-  pub due_none : (x : DueEntry) → Due 0 t s x → ⊥
-  due_none x due = omega (arith, due.0.inside)
-
   -- a step that is not cued is due
   pub due_more : (k : ℕ) → is_some (cue_at s k) ≡ false → (x : DueEntry) → Due (k + 1) t s x ↔ (Due k t s x ⊎ (x ≡ due_of t s k))
   due_more k e x = (
