@@ -73,7 +73,7 @@ impl From<CardRefusal> for RewriteRefusal {
     ghost from_gives = { λ refusal r. r ≡ Open refusal };
 
     fn from(refusal: CardRefusal) -> RewriteRefusal {
-        RewriteRefusal::Open(refusal)
+        Self::Open(refusal)
     }
 }
 
@@ -81,6 +81,6 @@ impl From<WriteRefusal> for RewriteRefusal {
     ghost from_gives = { λ refusal r. r ≡ Write refusal };
 
     fn from(refusal: WriteRefusal) -> RewriteRefusal {
-        RewriteRefusal::Write(refusal)
+        Self::Write(refusal)
     }
 }
