@@ -63,6 +63,7 @@ impl Grid<'_> {
     {
         let base = i * self.n;
         let row = &mut self.cells[base..base + self.n];
+        // Not by `zip`: after one over `iter_mut` a proof knows no number of the row.
         for (j, entry) in row.iter_mut().enumerate() {
             *entry = (*entry).min(through + via[j]);
         }
