@@ -138,6 +138,7 @@ fn write<T: Copy, U: Copy + From<T>>(entries: &[T], out: &mut [U])
     requires { length entries.now ≤ length out.old }
     ensures { (made : T → U) → ((x : T) (y : U) → U.from_gives x y → y ≡ made x) → out.new ≡ map made entries.now ++ drop (length entries.now) out.old }
 {
+    // Not by `zip`: after one over `iter_mut` a proof knows nothing of `out`.
     for (place, entry) in entries.iter().enumerate() {
         out[place] = U::from(*entry);
     }
