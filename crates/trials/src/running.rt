@@ -96,15 +96,15 @@ fn late_cues_do_too(rt: HostRuntime) -> Result<(), Fail> {
     let mut tables = Tables::new();
     let count = compiled(4, &washer(), &mut tables)?;
     let mut run = Run::open(4, count, &tables.groups, &tables.links)?;
-    let mut due = [DUE; 4];
-    assert_eq!(rt; run.list(&mut due[0..2]), Err(Short));
-    assert_eq!(rt; run.list(&mut due), Ok(3));
-    assert_eq!(rt; due, [due(1, 20), due(3, 70), due(2, 1_000_000), DUE]);
+    let mut listed = [DUE; 4];
+    assert_eq!(rt; run.list(&mut listed[0..2]), Err(Short));
+    assert_eq!(rt; run.list(&mut listed), Ok(3));
+    assert_eq!(rt; listed, [due(1, 20), due(3, 70), due(2, 1_000_000), DUE]);
     assert_eq!(rt; run.cue(1, 20), Ok(()));
     assert_eq!(rt; run.cue(2, 60), Ok(()));
     assert_eq!(rt; run.look(3), Ok(only(70)));
-    assert_eq!(rt; run.list(&mut due), Ok(1));
-    assert_eq!(rt; due, [due(3, 70), due(3, 70), due(2, 1_000_000), DUE]);
+    assert_eq!(rt; run.list(&mut listed), Ok(1));
+    assert_eq!(rt; listed, [due(3, 70), due(3, 70), due(2, 1_000_000), DUE]);
     Ok(())
 }
 
