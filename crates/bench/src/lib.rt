@@ -28,6 +28,7 @@ pub struct PlainEnd {
 }
 
 /// A bound as it crosses.
+// A struct of its own, as those below: only a struct with C's layout crosses.
 #[repr(C)]
 #[derive(Clone, Copy)]
 pub struct PlainBound {

@@ -28,6 +28,7 @@ pub fn read_field(bytes: &[u8], start: u32, width: u32) -> u64
 {
     let width = width.min(MOST_BITS);
     let first = start as usize;
+    // No `fold`: that the value fits rests on how many bits have been read.
     let mut value = 0;
     for at in first..first + width as usize {
         value = value * 2 + u64::from(read_bit(bytes, at));

@@ -13,7 +13,7 @@ pub fn write_field(bytes: &mut [u8], start: u32, width: u32, value: u64)
     ensures { Wrote bytes.old bytes.new start (min width most_bits) value }
 {
     let width = width.min(MOST_BITS);
-    // Over bit numbers, which stand in no slice.
+    // Each turn changes the bytes, which the closure of a chain would have to capture.
     for i in 0..width {
         let bit = ((value >> (width - 1 - i)) & 1) as u8;
         write_bit(bytes, start as usize + i as usize, bit);

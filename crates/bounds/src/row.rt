@@ -3,6 +3,7 @@ ghost use Rattle.std.specs.Prelude.{◌≡◌};
 ghost use Rattle.bounds.specs.Loose.{end_given, tidy};
 
 /// One end as it was given: present, or absent with the value that stands in its place.
+// No `Option`: an absent end's value is tested, and so has to be held.
 #[derive(Clone, Copy, PartialEq, Eq, Debug)]
 pub enum LooseEnd {
     Present(i32),

@@ -128,6 +128,7 @@ impl Part<&[u8]> {
     }
 }
 
+// What each write leaves, the same start in the same bytes, is said of the call, and is no fact of a part.
 impl Part<&mut [u8]> {
     /// Writes a field.
     pub(crate) fn put(&mut self, field: Field, value: u64)

@@ -50,6 +50,7 @@ impl Reason for WriteRefusal {
 }
 
 /// The reasons of `rewrite`.
+// No `Result` of the two: both are refusals.
 #[derive(Clone, Copy, PartialEq, Eq, Debug)]
 pub enum RewriteRefusal {
     /// The bytes do not open as a card.

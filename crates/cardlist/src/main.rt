@@ -28,6 +28,7 @@ fn main(rt: HostRuntime) -> io::Result<ExitCode> {
 }
 
 // Prints a whole text.
+// Three lines that `cardmake` has too: no crate stands below both programs that reads or writes.
 fn print(rt: &HostRuntime, text: &str) -> io::Result<()> {
     let mut out = BufWriter::new(rt.alloc(), rt.stdout())?;
     out.write_all(text.as_bytes())?;

@@ -46,6 +46,7 @@ fn make_card(rt: &HostRuntime, job: &Job) -> io::Result<ExitCode> {
 }
 
 // Writes bytes to standard output.
+// Three lines that `cardlist` has too: no crate stands below both programs that reads or writes.
 fn print(rt: &HostRuntime, bytes: &[u8]) -> io::Result<()> {
     let mut out = BufWriter::new(rt.alloc(), rt.stdout())?;
     out.write_all(bytes)?;

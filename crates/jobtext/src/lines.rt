@@ -8,6 +8,7 @@ ghost use Rattle.jobtext.specs.Lines.{TakesLine};
 use crate::cut::cut_at;
 
 /// The lines of a text that are still to be read, and the number of the first of them.
+// No `split` with `enumerate`: what is left is itself a text, and a contract says which lines that has.
 #[derive(Drop)]
 pub(crate) struct Lines<'a> {
     rest: &'a [u8],

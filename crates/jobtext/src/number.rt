@@ -12,6 +12,7 @@ pub(crate) fn decimal(word: &[u8], most: u32) -> Option<u32>
     if word.is_empty() {
         return None;
     }
+    // No `try_fold`: that ten times the value fits rests on the test of the turn before. The `parse` of std takes a sign as well.
     let mut value: u64 = 0;
     for digit in word {
         if !digit.is_ascii_digit() {

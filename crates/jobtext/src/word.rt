@@ -7,6 +7,7 @@ ghost use Rattle.jobtext.specs.Words.{words};
 use crate::cut::cut_at;
 
 /// The words of a text that are still to be read.
+// No `filter` over `split`: what is left is itself a text, and a contract says which words that has.
 #[derive(Drop)]
 pub(crate) struct Words<'a>(pub(crate) &'a [u8]);
 

@@ -20,6 +20,7 @@ const MOST_DISTANCES: usize = MOST_GROUPS * MOST_GROUPS;
 const MOST_LINKS: usize = MOST_GROUPS * (MOST_GROUPS - 1);
 
 /// Why there is no listing.
+// No `Result` of the two: both are reasons.
 #[derive(Drop)]
 pub enum NotListed {
     /// The card or its job is refused, with the line that tells so.

@@ -19,6 +19,7 @@ pub fn listing(heap: Global, groups: &[GroupEntry], links: &[Link]) -> Result<St
 }
 
 /// The one line that tells of a refusal. Fails only for want of memory.
+// A number and a place, and no `Told`: whoever prints one may have them from elsewhere.
 pub fn refusal_line(heap: Global, number: u8, place: Option<usize>) -> Result<String, AllocError>
     ensures { IfOk result (λ t. string_bytes t ≡ refusal_text number place) }
 {

@@ -21,7 +21,7 @@ impl Grid<'_> {
         ensures closed { MatchBool result (Closes self.old.n (entries self.old) (entries_after self.old self.new)) (Hopeless self.old.n (entries self.old)) }
         ensures rest { Refilled self.old self.new }
     {
-        // Over the numbers of the stages, which index no slice.
+        // Each stage changes the table, which the closure of a chain would have to capture.
         for k in 0..self.n {
             if !self.relax(k) {
                 return false;
@@ -41,7 +41,8 @@ impl Grid<'_> {
             return false;
         }
         let via = self.row(k);
-        // Over the numbers of the rows: an iterator over the rows would keep the table lent.
+        // A row is read in column k and then lowered, with a test between: through an iterator over the rows, which lends the table for
+        // writing, a proof would know none of its numbers afterwards.
         for i in 0..self.n {
             let through = self.at(i, k);
             if through < -HORIZON {

@@ -22,7 +22,7 @@ impl Distances<'_> {
                 leader: leader as u8,
                 offset: self.at(leader, step) as u32,
             };
-            // Counted here: a chain over what was written would read the table again.
+            // Counted in the turn that knows the leader.
             if leader == step {
                 count += 1;
             }
@@ -36,7 +36,8 @@ impl Distances<'_> {
         ensures { Leads self.now.n (distance self.now) step result }
     {
         let mut leader = step;
-        // Over step numbers, which index no slice: from the highest down, so that of equally early members the lowest stays.
+        // From the highest number down, so that of equally early members the lowest stays. No `min_by_key`: its key would have to hold the
+        // gap and the number.
         for member in (0..self.n).rev() {
             if self.rigid(step, member) {
                 let gap = self.at(step, member);

@@ -20,7 +20,7 @@ impl Leaders<'_> {
         ensures behind { IsOkAnd result (λ k. drop k links.new ≡ drop k links.old) }
     {
         let mut queue = Queue::new(links);
-        // Over step numbers, which index no slice.
+        // A step is asked of both tables, and each turn pushes into the queue, or ends the search with its refusal.
         for trigger in 0..self.distances.n {
             if self.leads(trigger) {
                 self.push_from(trigger, &mut queue)?;
@@ -36,7 +36,7 @@ impl Leaders<'_> {
         requires slots { queue.old.len + links_from (steps self.now) (gaps self.now) trigger ≤ length queue.old.slots.now }
         ensures { IsOkAnd result (λ _. Gained link_before (links_from (steps self.now) (gaps self.now) trigger) (KeptFrom (steps self.now) (gaps self.now) self.now.groups.now trigger (steps self.now)) queue.old queue.new) }
     {
-        // Over step numbers, as in `find_links`.
+        // As in `find_links`.
         for target in 0..self.distances.n {
             if target != trigger && self.leads(target) {
                 self.push_between(trigger, target, queue)?;

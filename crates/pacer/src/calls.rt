@@ -52,10 +52,10 @@ impl Run<'_> {
             return Err(NoSuchStep);
         }
         let step = usize::from(step);
-        match self.state.cue(step) {
-            Some(time) => Ok(Window::at(u64::from(time))),
-            None => Ok(self.tables.window(&self.state, step, Call::Look)),
-        }
+        Ok(match self.state.cue(step) {
+            Some(time) => Window::at(u64::from(time)),
+            None => self.tables.window(&self.state, step, Call::Look),
+        })
     }
 }
 

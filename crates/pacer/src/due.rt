@@ -22,7 +22,7 @@ impl Run<'_> {
             return Err(Short);
         }
         let mut queue = Queue::new(buffer);
-        // Over step numbers, which index no slice.
+        // A step is asked of the state and of the tables, and each turn pushes into the queue, or ends with its refusal.
         for step in 0..steps {
             if self.state.cue(usize::from(step)).is_none() {
                 self.tables.push_due(&self.state, step, &mut queue)?;

@@ -12,7 +12,7 @@ pub(crate) enum Group {
 }
 
 /// The call that is being handled.
-// A rule of the project: what a call sees is one `match` on the group's state together with the call.
+// A rule of the project (docs/DECISIONS.md, "Named forms"): what a call sees is one `match` on the group's state and the call.
 #[derive(Clone, Copy)]
 pub(crate) enum Call {
     Cue,

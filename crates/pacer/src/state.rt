@@ -13,6 +13,7 @@ pub(crate) const MOST: usize = MOST_STEPS as usize;
 const NO_GROUP: Group = Group::Open { lower: 0, upper: 0 };
 
 /// The groups by their leaders, the cue times, how many open groups each group waits for, and the time.
+// Apart from the tables: what a call would leave is said, and can be worked out, for any state over them.
 // Three arrays: with one array of a struct for each step, a cue takes 1.2 to 1.3 times as long (0.16 against 0.12 microseconds in the rigid job).
 #[derive(Clone, Copy)]
 pub(crate) struct State {

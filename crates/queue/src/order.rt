@@ -3,6 +3,7 @@ ghost use Rattle.std.specs.Prelude.{◌≡◌, Bool, true};
 ghost use Rattle.queue.specs.Order.{OneOf};
 
 /// An entry whose order is total.
+// A trait beside `Ord`, whose laws let different entries be equal: here two entries that neither comes before are the same.
 pub trait Ordered: Copy {
     // whether the first entry comes before the second
     ghost precedes: { Self → Self → Bool };
