@@ -1,11 +1,12 @@
 // Examples of cards: what opens, what is read, and what is refused.
-use bounds::{Fault, NoSuchPlace, Reason, Source, SpoiledItem, first_spoiled};
+use crate::made::{THREE_STEPS, TWO_STEPS, spoiled_at};
+use bounds::{Fault, NoSuchPlace, Reason, Source, first_spoiled};
 use card::{Card, CardRefusal};
 use std::test::Fail;
 
 #[test]
 fn one_record(rt: HostRuntime) -> Result<(), Fail> {
-    let bytes: [u8; 10] = [0x10, 0x40, 0x10, 0x00, 0x1c, 0x00, 0x01, 0x40, 0x00, 0x14];
+    let bytes = TWO_STEPS;
     let card = Card::open(&bytes)?;
     assert_eq!(rt; card.steps(), 2);
     assert_eq!(rt; card.count(), 1);
@@ -20,11 +21,7 @@ fn one_record(rt: HostRuntime) -> Result<(), Fail> {
 
 #[test]
 fn negative_and_absent_ends(rt: HostRuntime) -> Result<(), Fail> {
-    // 0 to 1, at least -3; 2 to 0, at most -1,000,000.
-    let bytes: [u8; 17] = [
-        0x10, 0x80, 0x20, 0x00, 0x1b, 0xff, 0xff, 0xa0, 0x00, 0x00, 0x08, 0x04, 0x00, 0x00, 0x10,
-        0xbd, 0xc0,
-    ];
+    let bytes = THREE_STEPS;
     let card = Card::open(&bytes)?;
     assert_eq!(rt; card.steps(), 3);
     assert_eq!(rt; card.count(), 2);
@@ -45,13 +42,7 @@ fn step_not_below(rt: HostRuntime) -> Result<(), Fail> {
     let bytes: [u8; 10] = [0x10, 0x40, 0x10, 0x00, 0x2c, 0x00, 0x01, 0x40, 0x00, 0x14];
     let card = Card::open(&bytes)?;
     assert_eq!(rt; Fault::NoSuchStep.number(), 3);
-    assert_eq!(rt;
-        first_spoiled(&card),
-        Some(SpoiledItem {
-            place: 0,
-            fault: Fault::NoSuchStep,
-        })
-    );
+    assert_eq!(rt; first_spoiled(&card), spoiled_at(0, Fault::NoSuchStep));
     Ok(())
 }
 
@@ -61,13 +52,7 @@ fn end_out_of_reach(rt: HostRuntime) -> Result<(), Fail> {
     let bytes: [u8; 10] = [0x10, 0x40, 0x10, 0x00, 0x1c, 0x00, 0x01, 0x4f, 0x42, 0x41];
     let card = Card::open(&bytes)?;
     assert_eq!(rt; Fault::OutOfReach.number(), 4);
-    assert_eq!(rt;
-        first_spoiled(&card),
-        Some(SpoiledItem {
-            place: 0,
-            fault: Fault::OutOfReach,
-        })
-    );
+    assert_eq!(rt; first_spoiled(&card), spoiled_at(0, Fault::OutOfReach));
     Ok(())
 }
 
@@ -77,13 +62,7 @@ fn absent_end_with_a_value(rt: HostRuntime) -> Result<(), Fail> {
     let bytes: [u8; 10] = [0x10, 0x40, 0x10, 0x00, 0x14, 0x00, 0x01, 0x40, 0x00, 0x14];
     let card = Card::open(&bytes)?;
     assert_eq!(rt; Fault::NoEnd.number(), 5);
-    assert_eq!(rt;
-        first_spoiled(&card),
-        Some(SpoiledItem {
-            place: 0,
-            fault: Fault::NoEnd,
-        })
-    );
+    assert_eq!(rt; first_spoiled(&card), spoiled_at(0, Fault::NoEnd));
     Ok(())
 }
 

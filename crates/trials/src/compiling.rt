@@ -1,12 +1,9 @@
 // Examples of compilation: what it answers, and what it leaves in the tables.
-use crate::made::{GROUP, LINK, link};
+use crate::made::{GROUP, LINK, TWO_STEPS, link};
 use bounds::{Reason, Rows};
 use card::{Card, WriteRefusal, write_card};
 use network::{GroupEntry, Kind, Refusal, compile};
 use std::test::Fail;
-
-// Two steps, from 0 to 1 [10, 20].
-const TWO_STEPS: [u8; 10] = [0x10, 0x40, 0x10, 0x00, 0x1c, 0x00, 0x01, 0x40, 0x00, 0x14];
 
 // Two steps, from 1 to 1 [10, 20], which no timetable keeps.
 const HOPELESS: [u8; 10] = [0x10, 0x40, 0x10, 0x04, 0x1c, 0x00, 0x01, 0x40, 0x00, 0x14];

@@ -1,7 +1,7 @@
 // Examples of sources: handed rows, two sources joined, a margin, and piles of these.
-use crate::made::row;
+use crate::made::{row, spoiled_at};
 use bounds::{
-    Fault, Joined, LooseEnd, Margin, NoSuchPlace, Reason, Rows, Source, SpoiledItem, first_spoiled,
+    Fault, Joined, LooseEnd, Margin, NoSuchPlace, Reason, Rows, Source, first_spoiled,
     first_spoiled_of_pair,
 };
 use std::test::Fail;
@@ -27,27 +27,18 @@ fn rows_are_refused(rt: HostRuntime) {
     let no_such_step = [row(0, 1, 10, 20), row(0, 2, 10, 1_000_001)];
     assert_eq!(rt;
         first_spoiled(&Rows::new(2, &no_such_step)),
-        Some(SpoiledItem {
-            place: 1,
-            fault: Fault::NoSuchStep,
-        })
+        spoiled_at(1, Fault::NoSuchStep)
     );
     let out_of_reach = [row(0, 1, -1_000_001, 20)];
     assert_eq!(rt;
         first_spoiled(&Rows::new(2, &out_of_reach)),
-        Some(SpoiledItem {
-            place: 0,
-            fault: Fault::OutOfReach,
-        })
+        spoiled_at(0, Fault::OutOfReach)
     );
     let mut untidy = row(0, 1, 10, 20);
     untidy.lower = LooseEnd::Absent(10);
     assert_eq!(rt;
         first_spoiled(&Rows::new(2, &[untidy])),
-        Some(SpoiledItem {
-            place: 0,
-            fault: Fault::NoEnd,
-        })
+        spoiled_at(0, Fault::NoEnd)
     );
 }
 
@@ -96,13 +87,7 @@ fn joined_long(rt: HostRuntime) -> Result<(), Fail> {
     // The second list begins at the last place that is read.
     let split = Joined::new(Rows::new(2, &many[..511]), Rows::new(1, &one));
     assert_eq!(rt; split.count(), 512);
-    assert_eq!(rt;
-        first_spoiled(&split),
-        Some(SpoiledItem {
-            place: 511,
-            fault: Fault::NoSuchStep,
-        })
-    );
+    assert_eq!(rt; first_spoiled(&split), spoiled_at(511, Fault::NoSuchStep));
     Ok(())
 }
 
@@ -124,22 +109,10 @@ fn margin_out_of_reach(rt: HostRuntime) {
     let reached = Margin::new(Rows::new(2, &rows), 2);
     assert_eq!(rt; first_spoiled(&reached), None);
     let source = Margin::new(Rows::new(2, &rows), 5);
-    assert_eq!(rt;
-        first_spoiled(&source),
-        Some(SpoiledItem {
-            place: 0,
-            fault: Fault::OutOfReach,
-        })
-    );
+    assert_eq!(rt; first_spoiled(&source), spoiled_at(0, Fault::OutOfReach));
     // Step 1 does not exist: the item stays spoiled as it was.
     let spoiled = Margin::new(Rows::new(1, &rows), 5);
-    assert_eq!(rt;
-        first_spoiled(&spoiled),
-        Some(SpoiledItem {
-            place: 0,
-            fault: Fault::NoSuchStep,
-        })
-    );
+    assert_eq!(rt; first_spoiled(&spoiled), spoiled_at(0, Fault::NoSuchStep));
 }
 
 #[test]
@@ -168,10 +141,7 @@ fn pile_reaches_too_far(rt: HostRuntime) {
     );
     assert_eq!(rt;
         first_spoiled_of_pair(Rows::new(2, &first), Rows::new(2, &second), 3, 3),
-        Some(SpoiledItem {
-            place: 1,
-            fault: Fault::OutOfReach,
-        })
+        spoiled_at(1, Fault::OutOfReach)
     );
     // The margin of its own does not touch the first source.
     assert_eq!(rt;

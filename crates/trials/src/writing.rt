@@ -1,17 +1,9 @@
 // Examples of the writer: what it writes, what it keeps, and what it refuses.
 use crate::borrowing::{write_other_bytes_while_open, write_same_bytes_after_last_use};
+use crate::made::{THREE_STEPS, TWO_STEPS};
 use bounds::{Fault, Reason, Source, SpoiledItem};
 use card::{Card, CardRefusal, RewriteRefusal, WriteRefusal, rewrite, write_card};
 use std::test::Fail;
-
-// Three steps: 0 to 1, at least -3; 2 to 0, at most -1,000,000.
-const THREE_STEPS: [u8; 17] = [
-    0x10, 0x80, 0x20, 0x00, 0x1b, 0xff, 0xff, 0xa0, 0x00, 0x00, 0x08, 0x04, 0x00, 0x00, 0x10, 0xbd,
-    0xc0,
-];
-
-// Two steps: 0 to 1 [10, 20].
-const TWO_STEPS: [u8; 10] = [0x10, 0x40, 0x10, 0x00, 0x1c, 0x00, 0x01, 0x40, 0x00, 0x14];
 
 // Two steps: 0 to 1 [10, 20], and a record without a lower end whose field is 10.
 const SPOILED: [u8; 17] = [
