@@ -19,6 +19,15 @@ pub sum_same : (f g : ℕ → ℕ) (n : ℕ) → ((k : ℕ) → k < n → f k �
 sum_same f g zero h = refl
 sum_same f g (suc n) h = omega (arith, sum_same f g n (λ k l. h k (omega arith)), h n (omega arith))
 
+-- a count of tests is at most their number
+pub sum_tests : (f : ℕ → Bool) (n : ℕ) → sum_below (λ k. cond (f k) 1 0) n ≤ n
+sum_tests f zero = omega arith
+sum_tests f (suc n) = omega (arith, sum_tests f n, one (f n))
+  where
+    one : (b : Bool) → cond b 1 0 ≤ 1
+    one true = omega arith
+    one false = omega arith
+
 sum_plus : (f g : ℕ → ℕ) (n : ℕ) → sum_below (λ k. f k + g k) n ≡ sum_below f n + sum_below g n
 sum_plus f g zero = refl
 sum_plus f g (suc n) = omega (arith, sum_plus f g n)

@@ -5,8 +5,8 @@ use Rattle.std.proofs.lemmas.Int.{ints}
 use Rattle.std.proofs.lemmas.Bool.{cases_eq}
 use Rattle.network.specs.declared.tables.GroupEntry.{GroupEntry}
 use Rattle.network.specs.Gaps.{Closed}
-use Rattle.network.specs.Groups.{Rigid, Leads, group_at, Grouped, leaders, GroupTable}
-use Rattle.network.proofs.Counting.{sum_more, sum_same}
+use Rattle.network.specs.Groups.{Rigid, Leads, group_at, is_leader, Grouped, leaders, GroupTable}
+use Rattle.network.proofs.Counting.{sum_more, sum_same, sum_tests}
 
 -- of the members from k on, the leader is the lowest-numbered of the earliest, unless none is as early as the step itself
 pub record LeaderSoFar (n : ℕ) (d : ℕ → ℕ → ℤ) (step leader k : ℕ) : Type 0 where
@@ -86,6 +86,10 @@ offset_above n d step leader closed step_in leads = leads.earliest step step_in 
 pub record GroupsSoFar (n : ℕ) (d : ℕ → ℕ → ℤ) (gs : List GroupEntry) (count k : ℕ) : Type 0 where
   pub each : (i : ℕ) → i < k → Grouped n d gs i
   pub counted : count ≡ leaders gs k
+
+-- there are no more groups than steps
+pub groups_few : (n : ℕ) (d : ℕ → ℕ → ℤ) (gs : List GroupEntry) (count k : ℕ) → GroupsSoFar n d gs count k → count ≤ k
+groups_few n d gs count k far = omega (arith, far.counted, sum_tests (is_leader gs) k)
 
 pub groups_all : (n : ℕ) (d : ℕ → ℕ → ℤ) (gs : List GroupEntry) (count k : ℕ) → Closed n d → k ≡ n → GroupsSoFar n d gs count k → GroupTable n d gs count
 groups_all n d gs count k closed all far = record {

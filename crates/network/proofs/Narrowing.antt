@@ -37,6 +37,10 @@ lowered_narrows n d e i j v i-in j-in low t = (
   ],
 )
 
+-- an absent end lowers nothing
+pub none_narrows : (n : ℕ) (d : ℕ → ℕ → ℤ) (i j : ℕ) → Narrowed n d d (Capped None i j)
+none_narrows n d i j t = (λ fits. (fits, tt), λ both. both.0)
+
 -- the two ends of a bound
 
 back_to_lower : (t : ℕ → ℤ) (o : Option ℤ) (a b : ℕ) → Capped (option_map neg_ℤ o) b a t ↔ IfSome o (λ l. l ≤ℤ (t b -ℤ t a))

@@ -52,8 +52,8 @@ impl State {
     fn uncued_count(&self, steps: u8) -> usize
         ensures { result ≡ uncued_count self.entry.now steps }
     {
-        (0..usize::from(steps))
-            .filter(|step| self.cue(*step).is_none())
+        (0..steps)
+            .filter(|step| self.cue(usize::from(*step)).is_none())
             .count()
     }
 }

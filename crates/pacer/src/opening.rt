@@ -36,15 +36,17 @@ impl<'a> Run<'a> {
             .get(..usize::from(steps))
             .ok_or(OpenRefusal::Tables)?;
         let links = links.get(..count).ok_or(OpenRefusal::Tables)?;
-        let tables = Tables {
+        let mut tables = Tables {
             steps: steps as u8,
             entries,
             links,
-            spans: spans_of(links),
+            spans: [Span::default(); MOST],
         };
         if !tables.fit() {
             return Err(OpenRefusal::Tables);
         }
+        // Behind the tests, so that tables that do not fit are refused before all of their links are gone through.
+        tables.spans = spans_of(links);
         let state = tables.first_state();
         Ok(Run { tables, state })
     }

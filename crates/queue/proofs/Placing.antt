@@ -2,7 +2,7 @@
 use Rattle.std.proofs.Common.{◌≡◌, ℕ, zero, suc, ◌+◌, ◌-◌, ◌<◌, ◌≤◌, Bool, true, false, not, ◌⊎◌, ◌↔◌, List, [], ◌∷◌, ◌++◌, length, get_or, take, drop, set, sym, refl, ap, ◌∙◌, subst, inl, inr, append_assoc, arith}
 use mathlib.Core.List.Memᴰ
 use mathlib.Core.List.{Memᴰ}
-use Rattle.std.proofs.lemmas.List.{set_split, take-take, length-take-le, take_at, drop_at, drop-drop, drop-take, take-append-le, length-append}
+use Rattle.std.proofs.lemmas.List.{append-nil, take-append-drop, set_split, take-take, length-take-le, take_at, drop_at, drop-drop, drop-take, take-append-le, length-append}
 use Rattle.std.proofs.lemmas.Bool.{both_ways, and_from, and_parts, cond-true, cond-false, cond_both, cases_Bool}
 use Rattle.std.proofs.lemmas.List.Folds.{list_all_at}
 use Rattle.std.specs.List.{AllWithin, IsAfterLastMatch, copy_within, list_all}
@@ -132,6 +132,11 @@ module _ {X : Type 0} {lt : X → X → Bool} (laws : Total lt) where
         strictly_placed x ys up.1 (λ m. new (Memᴰ.tail m)),
       ))
 
+  -- a list in which each entry comes before every later one ascends
+  pub strictly_ascends : (ys : List X) → Strictly lt ys → Ascending lt ys
+  strictly_ascends [] up = tt
+  strictly_ascends (y ∷ ys) up = (none_before_all y ys up.0, strictly_ascends ys up.1)
+
 -- the slots after one more entry among the first `len` of the old ones
 module _ {X : Type 0} (lt : X → X → Bool) (x : X) (old slots : List X) (len : ℕ) (room : len < length old) (is : slots ≡ placed lt x (take len old) ++ drop (len + 1) old) where
   long : length (placed lt x (take len old)) ≡ len + 1
@@ -151,6 +156,14 @@ module _ {X : Type 0} (lt : X → X → Bool) (x : X) (old slots : List X) (len 
 
   pub placed_holds : (z : X) → Memᴰ z (take (len + 1) slots) ↔ ((z ≡ x) ⊎ Memᴰ z (take len old))
   placed_holds z = subst (λ (zs : List X). Memᴰ z zs ↔ ((z ≡ x) ⊎ Memᴰ z (take len old))) (sym placed_used) (mem_placed lt x (take len old) z)
+
+-- where the used entries end at the place `at`, none moves up
+pub none_moves : {X : Type 0} (old : List X) (len at : ℕ) → len ≤ at → old ≡ copy_within old at len (at + 1)
+none_moves old len at le =
+    let none : len - at ≡ 0 = omega arith in
+    let whole : old ≡ take (at + 1) old ++ [] ++ drop (at + 1 + 0) old =
+    sym (take-append-drop (at + 1) old) ∙ ap (λ zs. zs ++ drop (at + 1) old) (sym (append-nil (take (at + 1) old))) ∙ ap (λ n. take (at + 1) old ++ [] ++ drop n old) (omega arith) in
+    whole ∙ ap (λ n. take (at + 1) old ++ take n (drop at old) ++ drop (at + 1 + n) old) (sym none)
 
 module _ {X : Type 0} (lt : X → X → Bool) (x : X) (old moved : List X) (len at : ℕ) (room : len < length old) (le : at ≤ len) where
   -- the entries from the place `at` on have moved up, and x stands there

@@ -18,7 +18,10 @@ pub(crate) fn place<T: Ordered>(slots: &mut [T], len: usize, added: T)
     ensures strictly { Strictly T.precedes (take len slots.old) → (Memᴰ added (take len slots.old) → ⊥) → Strictly T.precedes (take (len + 1) slots.new) }
 {
     let at = place_among(&slots[..len], &added);
-    slots.copy_within(at..len, at + 1);
+    // Entries that come in order move nothing, and then no call is made for it.
+    if at < len {
+        slots.copy_within(at..len, at + 1);
+    }
     slots[at] = added;
 }
 

@@ -8,4 +8,4 @@ front : {X : Type 0} (xs part : List X) (n : ℕ) → part ≡ slice_range xs 0 
 front xs part n e = grind (arith, common_steps)
 
 pub invariant_of-result : goal.invariant_of-result
-invariant_of-result c = record { ready = begins_indexed _ _ (omega (arith, c.if-steps-gt-MOST_STEPS.false)) (c.if-not-fit.ensures.0 refl).entries (c.if-not-fit.ensures.0 refl).links c.spans_of.ensures c.first_state-state.ensures }
+invariant_of-result c = record { ready = begins_indexed _ _ (omega (arith, c.if-steps-gt-MOST_STEPS.false)) (c.if-not-fit.ensures.0 refl).entries (c.if-not-fit.ensures.0 refl).links c.spans_of-tables.ensures c.first_state-state.ensures }
