@@ -42,26 +42,34 @@ pub fn read_line(line: &[u8]) -> Result<Line, NotALine>
     }
 }
 
+// The words are all found before a number is read: a line that has too few of them or too many is refused without reading one.
+
 // The number of steps that a line gives by its words behind the first.
 fn steps(mut rest: Words<'_>) -> Option<u16>
     ensures { result ≡ steps_of (words rest.entry.0.now) }
 {
-    let steps = step(rest.next()?)?;
-    rest.next().is_none().then_some(steps)
+    let steps = rest.next()?;
+    if rest.next().is_some() {
+        return None;
+    }
+    step(steps)
 }
 
 // The bound that a line gives by its words behind the first.
 fn bound(mut rest: Words<'_>) -> Option<Row>
     ensures { result ≡ bound_of (words rest.entry.0.now) }
 {
-    let from = step(rest.next()?)?;
-    let to = step(rest.next()?)?;
-    let lower = end(rest.next()?)?;
-    let upper = end(rest.next()?)?;
-    rest.next().is_none().then_some(Row {
-        from,
-        to,
-        lower,
-        upper,
+    let from = rest.next()?;
+    let to = rest.next()?;
+    let lower = rest.next()?;
+    let upper = rest.next()?;
+    if rest.next().is_some() {
+        return None;
+    }
+    Some(Row {
+        from: step(from)?,
+        to: step(to)?,
+        lower: end(lower)?,
+        upper: end(upper)?,
     })
 }
