@@ -1,7 +1,9 @@
 -- The pieces that a text is cut into, and its words.
-use Rattle.std.proofs.Common.{◌≡◌, ℕ, suc, ◌+◌, ◌<◌, ◌≤◌, Bool, true, false, cond, not, List, [], ◌∷◌, length, take, drop, Some, None, nat_lt, sym, refl, ap, ◌∙◌, arith, length-drop}
+use Rattle.std.proofs.Common.{◌≡◌, ℕ, suc, ◌+◌, ◌<◌, ◌≤◌, Bool, true, false, cond, not, List, [], ◌∷◌, length, take, drop, Some, None, Option, is_none, nat_eq, nat_lt, sym, refl, ap, ◌∙◌, arith, length-drop}
 use borrow.Author.Tests.{ltb-false}
 use Rattle.std.specs.List.{onto_first, position}
+use Rattle.std.proofs.lemmas.List.Quantifiers.{position-Some}
+use Rattle.std.proofs.lemmas.Bool.Decides.{nat_tests}
 use Rattle.jobtext.specs.Cut.{is_line_end, is_blank, stop_place, first_piece, after_piece}
 use Rattle.jobtext.specs.Words.{pieces, not_empty, lines, words}
 
@@ -78,3 +80,12 @@ none_by c cs more false e h = absurd (omega (arith, ap (λ b. cond (not (not b))
 pub words_none : (xs : List ℕ) → length xs ≤ stop_place is_solid xs → words xs ≡ []
 words_none [] h = refl
 words_none (c ∷ cs) h = none_by c cs (words_none cs) (is_blank c) refl h
+
+-- whether words are left, by the place of the first byte that is no blank
+pub words_left : (xs : List ℕ) (o : Option ℕ) → o ≡ position is_solid xs → is_none o ≡ nat_eq (length (words xs)) 0
+words_left xs None e = sym (ap (λ ws. nat_eq (length ws) 0) (words_none xs (missed is_solid xs e)))
+words_left xs (Some k) e =
+    let here : k ≡ stop_place is_solid xs = found is_solid xs k e in
+    let inside = position-Some is_solid xs k 0 (sym e) in
+    let one : length (words xs) ≡ suc (length (words (after_piece is_blank (drop (stop_place is_solid xs) xs)))) = ap length (words_some xs (omega (arith, inside.0))) in
+    grind (arith, nat_tests)

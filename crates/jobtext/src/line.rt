@@ -49,7 +49,7 @@ fn steps(mut rest: Words<'_>) -> Option<u16>
     ensures { result ≡ steps_of (words rest.entry.0.now) }
 {
     let steps = rest.next()?;
-    if rest.next().is_some() {
+    if !rest.is_done() {
         return None;
     }
     step(steps)
@@ -63,7 +63,7 @@ fn bound(mut rest: Words<'_>) -> Option<Row>
     let to = rest.next()?;
     let lower = rest.next()?;
     let upper = rest.next()?;
-    if rest.next().is_some() {
+    if !rest.is_done() {
         return None;
     }
     Some(Row {

@@ -1,5 +1,5 @@
 // The words of a text, one after the other.
-ghost use Rattle.std.specs.Prelude.{◌≡◌};
+ghost use Rattle.std.specs.Prelude.{◌≡◌, nat_eq, length};
 ghost use Rattle.std.specs.Iterator.{YieldsFirstRef, item_count};
 ghost use Rattle.jobtext.specs.Cut.{is_blank};
 ghost use Rattle.jobtext.specs.Words.{words};
@@ -10,6 +10,15 @@ use crate::cut::cut_at;
 // No `filter` over `split`: what is left is itself a text, and a contract says which words that has.
 #[derive(Drop)]
 pub(crate) struct Words<'a>(pub(crate) &'a [u8]);
+
+impl Words<'_> {
+    /// Whether no word is left. None is cut for that, however long it is.
+    pub(crate) fn is_done(&self) -> bool
+        ensures { result ≡ nat_eq (length (words self.now.0.now)) 0 }
+    {
+        self.0.iter().position(|byte| !is_blank(*byte)).is_none()
+    }
+}
 
 impl<'a> Iterator for Words<'a> {
     type Item = &'a [u8];
